@@ -1,0 +1,22 @@
+//! Transactions as they are kept: ids, tokens, keys, operations, records, documents and entries.
+#![tactic(auto)]
+
+mod docs;
+mod entry;
+mod id;
+mod key;
+mod op;
+mod ops;
+mod record;
+mod state;
+mod update;
+
+pub use docs::Doc;
+pub use entry::{Entry, Outcome};
+pub use id::{Token, TxnId};
+pub use key::Key;
+pub use op::{Assert, Change, Op};
+pub use ops::Ops;
+pub use record::Record;
+pub use state::State;
+pub use update::Update;
