@@ -1,2 +1,4 @@
 pub mod Updates
 pub mod Transactions
+pub mod States
+pub mod Keys
