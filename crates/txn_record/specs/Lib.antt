@@ -2,3 +2,4 @@ pub mod Updates
 pub mod Transactions
 pub mod States
 pub mod Keys
+pub mod Ids

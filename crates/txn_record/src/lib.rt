@@ -13,7 +13,7 @@ mod update;
 
 pub use docs::Doc;
 pub use entry::{Entry, Outcome};
-pub use id::{Token, TxnId, ids_are_ordered};
+pub use id::{Token, TxnId, ids_are_ordered, tokens_read_back};
 pub use key::{Key, keys_are_ordered};
 pub use op::{Assert, Change, Op};
 pub use ops::Ops;
