@@ -19,4 +19,4 @@ pub use op::{Assert, Change, Op};
 pub use ops::Ops;
 pub use record::Record;
 pub use state::State;
-pub use update::Update;
+pub use update::{Update, apply, fits};
