@@ -3,3 +3,4 @@ pub mod Transactions
 pub mod States
 pub mod Keys
 pub mod Ids
+pub mod Documents

@@ -11,7 +11,7 @@ mod record;
 mod state;
 mod update;
 
-pub use docs::Doc;
+pub use docs::{Doc, Docs};
 pub use entry::{Entry, Outcome};
 pub use id::{Token, TxnId, ids_are_ordered, tokens_read_back};
 pub use key::{Key, keys_are_ordered};
