@@ -2,3 +2,6 @@ pub mod KeyOrder
 pub mod TokenTexts
 pub mod SortedEntries
 pub mod DocLists
+pub mod DocumentLaws
+pub mod OrderLaws
+pub mod UpdateLaws

@@ -62,6 +62,13 @@ is_above name field = is_gt (slice_cmp nat_cmp field.name name)
 abbrev pub with_field : Named Value → List (Named Value) → List (Named Value)
 with_field field fields = filter (is_below field.name) fields ++ field ∷ filter (is_above field.name) fields
 
+abbrev pub is_object_layer : Value-F Value → Bool
+is_object_layer (Value-F.Object _) = true
+is_object_layer _ = false
+
+abbrev pub is_object : Value → Bool
+is_object value = is_object_layer (out-Value value)
+
 abbrev pub body_with : Named Value → Value-F Value → Option Value
 body_with field (Value-F.Object fields) = Some (Object (with_field field fields))
 body_with _ _ = None

@@ -1,0 +1,32 @@
+//! Laws of the sequential side: of operations on documents, and of recorded orders. The crates above
+//! cite them by these contracts.
+ghost use Rattle.std.specs.Prelude.{◌≡◌, ◌≢◌, [], ◌∷◌, ◌++◌, List, true, false, IsSomeAnd};
+ghost use Rattle.std.specs.FinMap.{get};
+ghost use Rattle.doc_value.specs.declared.value.Value.{Value};
+ghost use Rattle.txn_record.specs.declared.entry.Entry.{Entry};
+ghost use Rattle.txn_record.specs.declared.key.Key.{Key};
+ghost use Rattle.txn_record.specs.declared.op.Op.{Op};
+ghost use Rattle.txn_record.specs.Documents.{Docs, effect_of, body_after, tests, outcome_effect, after, is_right, has_entry, legal};
+ghost use Rattle.txn_record.specs.Updates.{is_update, is_object, updated};
+
+/// An operation changes nothing but the body at its key.
+pub fn changes_are_local()
+    ensures here { (op : Op) (docs : Docs) → get (effect_of op docs) op.key ≡ body_after op.change (get docs op.key) }
+    ensures others { (op : Op) (docs : Docs) (key : Key) → key ≢ op.key → get (effect_of op docs) key ≡ get docs key }
+{}
+
+/// A recorded order grows at its end, by a transaction that was not there and was decided rightly.
+pub fn orders_grow()
+    ensures after { (base : Docs) (entries : List Entry) (entry : Entry) →
+        after base (entries ++ entry ∷ []) ≡ outcome_effect entry.outcome entry.ops (after base entries) }
+    ensures legal { (base : Docs) (entries : List Entry) (entry : Entry) →
+        legal base entries ≡ true → has_entry entries entry ≡ false →
+        is_right entry.outcome (tests entry.ops (after base entries)) ≡ true →
+        legal base (entries ++ entry ∷ []) ≡ true }
+{}
+
+/// Each update of the form built so far fits each object, and makes an object of it.
+pub fn updates_fit_objects()
+    ensures { (update body : Value) → is_update update ≡ true → is_object body ≡ true →
+        IsSomeAnd (updated update body) (λ made. is_object made ≡ true) }
+{}
