@@ -4,3 +4,4 @@ pub mod States
 pub mod Keys
 pub mod Ids
 pub mod Documents
+pub mod Operations

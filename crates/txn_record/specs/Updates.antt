@@ -50,6 +50,10 @@ setting_of update = option_and_then setting_of_operator (only_field (out-Value u
 abbrev pub is_update : Value → Bool
 is_update update = is_some (setting_of update)
 
+-- the update that a value is; it is kept as that value
+abbrev pub update_in : Value → Option Value
+update_in value = if is_update value then Some value else None
+
 -- ---- what an update does
 
 abbrev pub is_below : List ℕ → Named Value → Bool

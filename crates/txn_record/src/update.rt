@@ -1,7 +1,7 @@
-ghost use Rattle.std.specs.Prelude.{◌≡◌, [], ◌∷◌, ◌++◌, IfOk, OnOk, filter, is_some, Some, None, if◌then◌else◌};
+ghost use Rattle.std.specs.Prelude.{◌≡◌, [], ◌∷◌, ◌++◌, IfOk, OnOk, filter, is_some};
 ghost use Rattle.std.specs.Option.{option_copied};
 ghost use Rattle.doc_value.specs.declared.value.Value.{out-Value};
-ghost use Rattle.txn_record.specs.Updates.{only_field, is_scalar, is_bad_path, is_reserved, is_settable, as_setting, setting_of_operator, setting_of, is_update, is_below, is_above, with_field, updated};
+ghost use Rattle.txn_record.specs.Updates.{only_field, is_scalar, is_bad_path, is_reserved, is_settable, as_setting, setting_of_operator, setting_of, update_in, is_below, is_above, with_field, updated};
 
 use doc_value::{Field, Fields, Named, OutOfMemory, Value};
 use sqlite_items::Items;
@@ -36,7 +36,7 @@ impl Model for Update {
 impl Update {
     /// Reads an update of the one form built so far, `{"$set":{FIELD:SCALAR}}`. Any other value is none.
     pub fn read(alloc: Global, value: &Value) -> Result<Option<Update>, OutOfMemory>
-        ensures { IfOk result (λ read. read ≡ (if is_update value.now then Some value.now else None)) }
+        ensures { IfOk result (λ read. read ≡ update_in value.now) }
     {
         if setting(value).is_none() {
             return Ok(None);
