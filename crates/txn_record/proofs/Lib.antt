@@ -5,3 +5,4 @@ pub mod DocLists
 pub mod DocumentLaws
 pub mod OrderLaws
 pub mod UpdateLaws
+pub mod WalkLaws

@@ -5,3 +5,4 @@ pub mod Keys
 pub mod Ids
 pub mod Documents
 pub mod Operations
+pub mod Walks
