@@ -1,0 +1,4 @@
+pub mod JsonFaults
+pub mod JsonValue
+pub mod Reading
+pub mod Printing
