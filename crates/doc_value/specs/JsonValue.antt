@@ -1,5 +1,5 @@
 -- The value that JSON without fractions stands for.
-use Rattle.std.specs.Prelude.{ℕ, pos, List, [], ◌∷◌, unwrap_or}
+use Rattle.std.specs.Prelude.{pos, List, [], ◌∷◌, unwrap_or}
 use Rattle.serde_json.specs.Data.{Data, null, boolean, number, string, array, object, Items, no_items, item, Members, no_members, member}
 use Rattle.serde_json.specs.Find.{as_i64}
 use Rattle.doc_value.specs.declared.value.Named.{Named}
