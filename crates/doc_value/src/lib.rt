@@ -3,6 +3,7 @@
 
 mod body;
 mod doc_id;
+mod equality;
 mod fault;
 mod lookup;
 mod name;
