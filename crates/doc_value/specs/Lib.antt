@@ -7,3 +7,6 @@ pub mod Names
 pub mod Ids
 pub mod Bodies
 pub mod Paths
+pub mod Order
+pub mod Sound
+pub mod Readable

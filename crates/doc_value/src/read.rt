@@ -1,11 +1,12 @@
-ghost use Rattle.std.specs.Prelude.{◌≡◌, ◌≢◌, IfOk, IfErr, Some, None, Err};
-ghost use Rattle.serde_json.specs.Data.{depth};
+ghost use Rattle.std.specs.Prelude.{◌≡◌, ◌≢◌, IfOk, IfErr, OnOk, Some, None, Err, true, map, nat_lt};
+ghost use Rattle.std.specs.Str.{is_utf8};
+ghost use Rattle.serde_json.specs.Data.{depth, items_depth, members_depth};
 ghost use Rattle.serde_json.specs.View.{view, items_view, members_view};
 ghost use Rattle.doc_value.specs.JsonFaults.{has_bad_name, some_item_has_bad_name, some_member_has_bad_name, is_whole, items_are_whole, members_are_whole};
 ghost use Rattle.doc_value.specs.JsonValue.{value_of, values_of, fields_of};
+ghost use Rattle.doc_value.specs.Sound.{is_sound, all_sound, fields_sound, field_soundness};
+ghost use Rattle.doc_value.specs.Readable.{IsReadable};
 ghost use Rattle.doc_value.specs.Reading.{json_in, value_in};
-ghost use Rattle.std.specs.Prelude.{nat_lt};
-ghost use Rattle.serde_json.specs.Data.{items_depth, members_depth};
 
 use crate::fault::ValueFault;
 use crate::text::{OutOfMemory, Text};
@@ -21,6 +22,7 @@ const MAX_NESTING: u32 = 100;
 /// A repeated name keeps its last value, and faults inside the value that it had before don't count.
 pub fn read_value(alloc: Global, bytes: &[u8]) -> Result<Value, ValueFault>
     ensures exact { result ≢ Err ValueFault.OutOfMemory → result ≡ value_in bytes.now }
+    ensures readable { IfOk result IsReadable }
 {
     let json = parse(alloc, bytes)?;
     if is_deeper(&json, MAX_NESTING) {
@@ -169,12 +171,13 @@ fn members_have_whole_numbers(members: &Map<String, Json>) -> bool
 #[cycle(convert)]
 fn convert(alloc: Global, json: &Json) -> Result<Value, OutOfMemory>
     ensures value { IfOk result (λ value. value ≡ value_of (view json.now)) }
+    ensures sound { OnOk result (is_sound (value_of (view json.now)) ≡ true) }
 {
     match json {
         Json::Null => Ok(Value::Null),
         Json::Bool(truth) => Ok(Value::Bool(*truth)),
         Json::Number(number) => Ok(Value::Int(number.as_i64().unwrap_or(0))),
-        Json::String(text) => Ok(Value::Text(Text::from_str(alloc, text.as_str())?)),
+        Json::String(text) => Ok(Value::Text(copy_text(alloc, text.as_str())?)),
         Json::Array(items) => Ok(Value::List(convert_items(alloc, items)?)),
         Json::Object(members) => Ok(Value::Object(convert_members(alloc, members)?)),
     }
@@ -183,6 +186,8 @@ fn convert(alloc: Global, json: &Json) -> Result<Value, OutOfMemory>
 #[cycle(convert)]
 fn convert_items(alloc: Global, items: &Vec<Json>) -> Result<Items<Value>, OutOfMemory>
     ensures value { IfOk result (λ values. values ≡ values_of (items_view items.now.items)) }
+    ensures sound { OnOk result (all_sound (map is_sound (values_of (items_view items.now.items)))
+        ≡ true) }
 {
     let mut values = Items::new(alloc);
     for item in items {
@@ -194,12 +199,21 @@ fn convert_items(alloc: Global, items: &Vec<Json>) -> Result<Items<Value>, OutOf
 #[cycle(convert)]
 fn convert_members(alloc: Global, members: &Map<String, Json>) -> Result<Fields, OutOfMemory>
     ensures value { IfOk result (λ fields. fields ≡ fields_of (members_view members.now.entries)) }
+    ensures sound { OnOk result (fields_sound (map field_soundness
+        (fields_of (members_view members.now.entries))) ≡ true) }
 {
     let mut fields = Items::new(alloc);
     for (name, value) in members {
-        let name = Text::from_str(alloc, name.as_str())?;
+        let name = copy_text(alloc, name.as_str())?;
         let value = convert(alloc, value)?;
         fields.push(Named { name, value })?;
     }
     Ok(fields)
+}
+
+fn copy_text(alloc: Global, text: &str) -> Result<Text, OutOfMemory>
+    ensures value { IfOk result (λ copy. copy ≡ text.now) }
+    ensures sound { is_utf8 text.now ≡ true }
+{
+    Text::from_str(alloc, text)
 }
