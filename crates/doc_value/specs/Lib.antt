@@ -1,0 +1,12 @@
+pub mod JsonFaults
+pub mod JsonValue
+pub mod Reading
+pub mod Printing
+pub mod Nesting
+pub mod Names
+pub mod Ids
+pub mod Bodies
+pub mod Paths
+pub mod Order
+pub mod Sound
+pub mod Readable
