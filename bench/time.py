@@ -1,0 +1,50 @@
+#!/usr/bin/env python3
+"""Times the built program on scripts that bench/make.py makes, at doubling sizes, and prints a table:
+size, seconds, peak memory. It stops doubling once a run takes a minute.
+
+    bench/time.py [FORM..]      FORM is a form of bench/make.py; else all of them
+"""
+
+import os
+import subprocess
+import sys
+import tempfile
+import time
+
+HERE = os.path.dirname(os.path.abspath(__file__))
+PROGRAM = os.path.join(HERE, "..", "crates", "txn_cli", "out", "txn_cli")
+SIZES = [1_000, 2_000, 4_000, 8_000, 16_000, 32_000, 64_000]
+
+
+def measured(script):
+    """Seconds and peak memory, in megabytes, of one run."""
+    start = time.perf_counter()
+    pid = os.fork()
+    if pid == 0:
+        with open(script) as source, open(os.devnull, "w") as sink:
+            os.dup2(source.fileno(), 0)
+            os.dup2(sink.fileno(), 1)
+            os.execv(PROGRAM, [PROGRAM, "run"])
+    _, status, usage = os.wait4(pid, 0)
+    seconds = time.perf_counter() - start
+    if os.waitstatus_to_exitcode(status) != 0:
+        sys.exit("the program ended with status %d" % os.waitstatus_to_exitcode(status))
+    return seconds, usage.ru_maxrss / 1024
+
+
+def main():
+    for form in sys.argv[1:] or ["apart", "one"]:
+        print("| %s | seconds | MB |\n|---|---|---|" % form)
+        for size in SIZES:
+            with tempfile.NamedTemporaryFile("w", suffix=".jsonl") as script:
+                subprocess.run([sys.executable, os.path.join(HERE, "make.py"), form, str(size)],
+                               stdout=script, check=True)
+                script.flush()
+                seconds, megabytes = measured(script.name)
+            print("| %d | %.2f | %.0f |" % (size, seconds, megabytes), flush=True)
+            if seconds > 60:
+                break
+
+
+if __name__ == "__main__":
+    main()
