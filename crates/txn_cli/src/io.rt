@@ -18,3 +18,6 @@ pub use pour::{PourFault, pour};
 pub use sink::Sink;
 pub use source::{Failed, Source};
 pub use standard::{StdSink, StdSource};
+
+#[cfg(test)]
+mod tests;

@@ -148,7 +148,7 @@ fn gather(taken: u64, ahead: &mut ReadAhead, line: &mut Vec<u8>) -> Result<bool,
     match newline_at(bytes) {
         Some(count) => {
             let size = before + count as u64;
-            test_limits(taken, size, size + 1)?;
+            check_limits(taken, size, size + 1)?;
             line.extend_from_slice(&bytes[..count])?;
             ahead.advance(count + 1);
             Ok(true)
@@ -156,7 +156,7 @@ fn gather(taken: u64, ahead: &mut ReadAhead, line: &mut Vec<u8>) -> Result<bool,
         None => {
             let count = bytes.len();
             let size = before + count as u64;
-            test_limits(taken, size, size)?;
+            check_limits(taken, size, size)?;
             line.extend_from_slice(bytes)?;
             ahead.advance(count);
             Ok(false)
@@ -172,7 +172,7 @@ fn newline_at(bytes: &[u8]) -> Option<usize>
 }
 
 /// Refuses a line that passes a limit, of which so many bytes are known, `cost` with its newline.
-fn test_limits(taken: u64, size: u64, cost: u64) -> Result<(), LineFault>
+pub fn check_limits(taken: u64, size: u64, cost: u64) -> Result<(), LineFault>
     requires { taken + cost < 18446744073709551616 }
     ensures within { OnOk result (limit_passed taken size cost ≡ None) }
     ensures passed { IfErr result (λ fault. limit_passed taken size cost ≡ Some fault) }
