@@ -1,0 +1,5 @@
+pub mod Gathering
+pub mod Invariants
+pub mod Limits
+pub mod Newlines
+pub mod Pieces

@@ -1,0 +1,6 @@
+//! The program `txn`.
+#![tactic(auto)]
+
+mod io;
+
+fn main() {}
