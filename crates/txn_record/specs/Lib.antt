@@ -1,2 +1,4 @@
 pub mod Updates
 pub mod Transactions
+pub mod Keys
+pub mod States

@@ -25,3 +25,6 @@ set_of update = option_and_then set_of_operand (only_field (out-Value update))
 
 abbrev pub is_update : Value → Bool
 is_update update = is_some (set_of update)
+
+abbrev pub updated : Value → Value → Option Value
+updated update body = None
