@@ -7,8 +7,7 @@ use Rattle.txn_record.specs.Updates.{updated}
 use Rattle.txn_record.specs.declared.id.Token.{Token}
 use Rattle.txn_record.specs.declared.record.Record.{Record}
 use Rattle.txn_record.specs.declared.state.State.{State}
-use Rattle.txn_record.specs.States.{same_state}
-use Rattle.store_trait.specs.Names.{same_id, may_stand}
+use Rattle.store_trait.specs.Names.{same_id, same_state, may_stand}
 use Rattle.store_trait.specs.Contents.{Content}
 use Rattle.store_trait.specs.declared.name.Name.{Name}
 use Rattle.store_trait.specs.declared.name.Name.TheVariants as name

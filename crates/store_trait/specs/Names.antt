@@ -1,9 +1,11 @@
-use Rattle.std.specs.Prelude.{Bool, true, false}
+use Rattle.std.specs.Prelude.{Bool, true, false, ◌==◌}
 use Rattle.std.specs.Str.{bytes_eq}
 use Rattle.std.specs.declared.cmp.Ordering.{Ordering}
 use Rattle.std.specs.declared.cmp.Ordering.TheVariants.{Less, Equal, Greater}
 use Rattle.txn_record.specs.Keys.{id_cmp, key_cmp}
+use Rattle.txn_record.specs.States.{state_number}
 use Rattle.txn_record.specs.declared.id.TxnId.{TxnId}
+use Rattle.txn_record.specs.declared.state.State.{State}
 use Rattle.store_trait.specs.declared.name.Name.{Name}
 use Rattle.store_trait.specs.declared.name.Name.TheVariants as name
 use Rattle.store_trait.specs.declared.cell.Cell.{Cell}
@@ -30,6 +32,9 @@ name_cmp name.Nonce name.Nonce = Equal
 
 abbrev pub same_id : TxnId → TxnId → Bool
 same_id a b = bytes_eq a.0 b.0
+
+abbrev pub same_state : State → State → Bool
+same_state a b = state_number a == state_number b
 
 -- the cell is of the name's kind, and a record stands under its own id
 abbrev pub may_stand : Name → Cell → Bool

@@ -1,4 +1,7 @@
-pub mod Updates
-pub mod Transactions
+pub mod Ids
 pub mod Keys
+pub mod Revnos
 pub mod States
+pub mod Transactions
+pub mod Updates
+pub mod Walks

@@ -13,8 +13,8 @@ mod update;
 
 pub use docs::Doc;
 pub use entry::{Entry, Outcome};
-pub use id::{Token, TxnId};
-pub use key::Key;
+pub use id::{Token, TxnId, ids_are_ordered};
+pub use key::{Key, keys_are_ordered};
 pub use op::{Assert, Change, Op};
 pub use ops::Ops;
 pub use record::Record;

