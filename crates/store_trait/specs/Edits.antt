@@ -59,12 +59,15 @@ abbrev pub hit_add_token : Token → Name → Option Cell → Hit
 hit_add_token token (name.Doc _) (Some (cell.Doc doc)) = unmarked doc.remove (puts (cell.Doc (record doc { queue = with_token token doc.queue })))
 hit_add_token _ _ _ = None
 
+-- the document stands at a number that has a next one, and the token waits on it
+abbrev pub is_updatable : DocCell → ℤ → Token → Bool
+is_updatable doc revno token = int_eq doc.revno revno && int_lt revno (pos 9223372036854775807) && has_token token doc.queue
+
 abbrev pub with_body : DocCell → Value → Cell
 with_body doc body = cell.Doc (record doc { body = body; revno = doc.revno +ℤ pos 1 })
 
 abbrev pub hit_update : ℤ → Token → Value → Name → Option Cell → Hit
-hit_update revno token update (name.Doc _) (Some (cell.Doc doc)) =
-    if int_eq doc.revno revno && int_lt revno (pos 9223372036854775807) && has_token token doc.queue then option_map (λ body. Some (with_body doc body)) (updated update doc.body) else None
+hit_update revno token update (name.Doc _) (Some (cell.Doc doc)) = if is_updatable doc revno token then option_map (λ body. Some (with_body doc body)) (updated update doc.body) else None
 hit_update _ _ _ _ _ = None
 
 -- the last counter, at which no nonce is left

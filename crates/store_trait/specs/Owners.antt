@@ -2,8 +2,8 @@ use Rattle.std.specs.Prelude.{ℕ, nat_lt, unsigned_abs, ℤ, Option, Some, None
 use Rattle.txn_record.specs.declared.id.Token.{Token}
 use Rattle.store_trait.specs.declared.cell.DocCell.{DocCell}
 use Rattle.store_trait.specs.declared.cell.StashCell.{StashCell}
-use Rattle.store_trait.specs.declared.owner.Side.{Side}
-use Rattle.store_trait.specs.declared.owner.Side.TheVariants as side
+use Rattle.store_trait.specs.declared.side.Side.{Side}
+use Rattle.store_trait.specs.declared.side.Side.TheVariants as side
 
 -- how often a key's document has changed, its insertions and removals included
 abbrev pub epoch : ℤ → ℕ

@@ -2,13 +2,17 @@
 #![tactic(auto)]
 
 mod cell;
+mod changes;
 mod edit;
+mod guards;
 mod name;
-mod owner;
+mod side;
 mod store;
 
-pub use cell::{Cell, DocCell, Named, StashCell, Tokens};
+pub use cell::{Cell, DocCell, Named, StashCell, Tokens, counter_in, doc_in, record_in, stash_in};
+pub use changes::{Changed, change};
 pub use edit::{Edit, Edited};
-pub use name::Name;
-pub use owner::Side;
+pub use guards::hits;
+pub use name::{Name, names_are_ordered};
+pub use side::{Side, owner};
 pub use store::{Store, StoreError};
