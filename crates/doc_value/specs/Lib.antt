@@ -1,0 +1,9 @@
+pub mod JsonFaults
+pub mod JsonValue
+pub mod Reading
+pub mod Printing
+pub mod Nesting
+pub mod Names
+pub mod Ids
+pub mod Bodies
+pub mod Paths

@@ -1,10 +1,25 @@
 //! Values, bodies, paths and their JSON text.
 #![tactic(auto)]
 
+mod body;
 mod doc_id;
+mod equality;
+mod fault;
+mod lookup;
+mod name;
+mod nesting;
+mod path;
+mod print;
+mod read;
 mod text;
 mod value;
 
+pub use body::read_body;
 pub use doc_id::DocId;
+pub use fault::{BodyFault, PathFault, ValueFault};
+pub use lookup::get;
+pub use path::Path;
+pub use print::{print_value, push_text, push_value};
+pub use read::read_value;
 pub use text::{OutOfMemory, Text};
 pub use value::{Field, Fields, Named, Value};

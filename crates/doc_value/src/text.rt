@@ -1,7 +1,10 @@
-ghost use Rattle.std.specs.Prelude.{◌≡◌, IfOk};
+ghost use Rattle.std.specs.Prelude.{◌≡◌, IfOk, ◌↔◌, IsTrue};
+ghost use Rattle.std.specs.Ordering.{nat_cmp};
+ghost use Rattle.std.specs.Cmp.Lexicographic.{slice_cmp};
 ghost use Rattle.std.specs.Str.{IsUtf8};
 
 use std::alloc::{AllocError, Global};
+use std::cmp::Ordering;
 use std::marker::Model;
 
 /// Want of memory, the one answer that no cause is given for.
@@ -48,5 +51,18 @@ impl Text {
         ensures { IfOk result (λ copy. copy ≡ self.now) }
     {
         Text::from_str(alloc, self.text.as_str())
+    }
+
+    pub fn equals(&self, other: &Text) -> bool
+        ensures { IsTrue result ↔ (self.now ≡ other.now) }
+    {
+        self.as_bytes() == other.as_bytes()
+    }
+
+    /// The order of texts by their bytes.
+    pub fn compare(&self, other: &Text) -> Ordering
+        ensures { result ≡ slice_cmp nat_cmp self.now other.now }
+    {
+        self.as_bytes().cmp(other.as_bytes())
     }
 }

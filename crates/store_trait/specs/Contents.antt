@@ -1,6 +1,6 @@
-use Rattle.std.specs.Prelude.{◌≡◌, Bool, true, false, Option, Some, None, List, find}
-use Rattle.std.specs.FinMap.{FinMap, get, entries, insert, remove}
-use Rattle.std.specs.declared.cmp.Ordering.TheVariants.{Less, Equal, Greater}
+use Rattle.std.specs.Prelude.{Bool, true, Option, Some, None, List, find}
+use Rattle.std.specs.Ordering.{is_lt}
+use Rattle.std.specs.FinMap.{FinMap, entries}
 use Rattle.store_trait.specs.Names.{name_cmp}
 use Rattle.store_trait.specs.declared.name.Name.{Name}
 use Rattle.store_trait.specs.declared.cell.Cell.{Cell}
@@ -13,7 +13,7 @@ Content = FinMap name_cmp Cell
 -- whether a name comes after another one, or after nothing
 abbrev pub is_past : Option Name → Name → Bool
 is_past None name = true
-is_past (Some after) name = elim (name_cmp after name) [ Less ↦ true | Equal ↦ false | Greater ↦ false ]
+is_past (Some after) name = is_lt (name_cmp after name)
 
 abbrev pub named : Name × Cell → Named
 named entry = record { name = entry.0; cell = entry.1 }

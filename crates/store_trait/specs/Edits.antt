@@ -7,7 +7,7 @@ use Rattle.txn_record.specs.Updates.{updated}
 use Rattle.txn_record.specs.declared.id.Token.{Token}
 use Rattle.txn_record.specs.declared.record.Record.{Record}
 use Rattle.txn_record.specs.declared.state.State.{State}
-use Rattle.store_trait.specs.Names.{same_id, same_state, may_stand}
+use Rattle.store_trait.specs.Names.{same_id, same_state, may_stand, may_hold}
 use Rattle.store_trait.specs.Contents.{Content}
 use Rattle.store_trait.specs.declared.name.Name.{Name}
 use Rattle.store_trait.specs.declared.name.Name.TheVariants as name
@@ -66,8 +66,11 @@ is_updatable doc revno token = int_eq doc.revno revno && int_lt revno (pos 92233
 abbrev pub with_body : DocCell → Value → Cell
 with_body doc body = cell.Doc (record doc { body = body; revno = doc.revno +ℤ pos 1 })
 
+abbrev pub hit_doc_update : ℤ → Token → Value → DocCell → Hit
+hit_doc_update revno token update doc = if is_updatable doc revno token then option_map (λ body. Some (with_body doc body)) (updated update doc.body) else None
+
 abbrev pub hit_update : ℤ → Token → Value → Name → Option Cell → Hit
-hit_update revno token update (name.Doc _) (Some (cell.Doc doc)) = if is_updatable doc revno token then option_map (λ body. Some (with_body doc body)) (updated update doc.body) else None
+hit_update revno token update (name.Doc _) (Some (cell.Doc doc)) = hit_doc_update revno token update doc
 hit_update _ _ _ _ _ = None
 
 -- the last counter, at which no nonce is left
@@ -91,6 +94,11 @@ hit (edit.AddToken token) = hit_add_token token
 hit (edit.Update revno token update) = hit_update revno token update
 hit edit.DrawNonce = hit_draw_nonce
 hit (edit.Place placed) = hit_place placed
+
+-- whether what an edit leaves under a name may stand there
+abbrev pub may_leave : Name → Hit → Bool
+may_leave name None = true
+may_leave name (Some after) = may_hold name after
 
 -- the content once a hit, or a miss, has been made under a name
 abbrev pub put_under : Content → Name → Hit → Content

@@ -1,4 +1,4 @@
-use Rattle.std.specs.Prelude.{Bool, true, false, ◌==◌}
+use Rattle.std.specs.Prelude.{Option, Some, None, Bool, true, false, ◌==◌}
 use Rattle.std.specs.Str.{bytes_eq}
 use Rattle.std.specs.declared.cmp.Ordering.{Ordering}
 use Rattle.std.specs.declared.cmp.Ordering.TheVariants.{Less, Equal, Greater}
@@ -43,3 +43,8 @@ may_stand (name.Doc _) (cell.Doc _) = true
 may_stand (name.Stash _) (cell.Stash _) = true
 may_stand name.Nonce (cell.Nonce _) = true
 may_stand _ _ = false
+
+-- nothing, or a cell that may stand there
+abbrev pub may_hold : Name → Option Cell → Bool
+may_hold name None = true
+may_hold name (Some cell) = may_stand name cell

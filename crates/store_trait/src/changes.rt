@@ -1,8 +1,11 @@
-ghost use Rattle.std.specs.Prelude.{◌≡◌, Some, IfOk, pos, ◌<ℤ◌, option_map};
-ghost use Rattle.txn_record.specs.Updates.{updated};
+ghost use Rattle.std.specs.Prelude.{◌≡◌, Option, Some, IfOk, IsTrue};
 ghost use Rattle.std.specs.Option.{option_copied};
-ghost use Rattle.store_trait.specs.Edits.{with_token, moved, with_body, hit, hit_insert_record, hit_move, hit_add_token, hit_update, hit_draw_nonce, hit_place};
+ghost use Rattle.store_trait.specs.Edits.{with_token, moved, may_leave, hit, hit_insert_record, hit_move, hit_add_token, hit_doc_update, hit_update, hit_draw_nonce, hit_place};
 ghost use Rattle.store_trait.specs.Changes.{as_hit};
+ghost use Rattle.store_trait.specs.Names.{may_hold};
+ghost use Rattle.store_trait.specs.declared.edit.Edit.{Edit as EditValue};
+ghost use Rattle.store_trait.specs.declared.name.Name.{Name as NameValue};
+ghost use Rattle.store_trait.specs.declared.cell.Cell.{Cell as CellValue};
 
 use crate::cell::{Cell, DocCell, Tokens};
 use crate::edit::Edit;
@@ -11,7 +14,7 @@ use crate::name::Name;
 use doc_value::OutOfMemory;
 use sqlite_items::Items;
 use std::alloc::Global;
-use txn_record::{Record, State, Token, Update};
+use txn_record::{Record, State, Token, Update, apply};
 
 /// What an edit came to: nothing where it missed, a cell under its name, or none there.
 #[derive(Drop)]
@@ -151,9 +154,7 @@ fn update_doc(
         (λ changed. as_hit changed ≡ hit_update revno token.now update.now name.now (option_copied cell.entry)) }
 {
     match (name, cell) {
-        (Name::Doc(_), Some(Cell::Doc(doc))) if takes_update(doc, revno, token) => {
-            updated_doc(alloc, update, doc)
-        }
+        (Name::Doc(_), Some(Cell::Doc(doc))) => updated_doc(alloc, revno, token, update, doc),
         _ => Ok(Changed::Missed),
     }
 }
@@ -185,12 +186,20 @@ fn place(
     }
 }
 
-fn updated_doc(alloc: Global, update: &Update, doc: &DocCell) -> Result<Changed, OutOfMemory>
-    requires { doc.now.revno <ℤ pos 9223372036854775807 }
+fn updated_doc(
+    alloc: Global,
+    revno: i64,
+    token: &Token,
+    update: &Update,
+    doc: &DocCell,
+) -> Result<Changed, OutOfMemory>
     ensures { IfOk result
-        (λ changed. as_hit changed ≡ option_map (λ body. Some (with_body doc.now body)) (updated update.now doc.now.body)) }
+        (λ changed. as_hit changed ≡ hit_doc_update revno token.now update.now doc.now) }
 {
-    match update.apply(alloc, &doc.body)? {
+    if !takes_update(doc, revno, token) {
+        return Ok(Changed::Missed);
+    }
+    match apply(alloc, update, &doc.body)? {
         None => Ok(Changed::Missed),
         Some(body) => {
             let queue = Items::from_slice(alloc, doc.queue.as_slice())?;
@@ -203,3 +212,9 @@ fn updated_doc(alloc: Global, update: &Update, doc: &DocCell) -> Result<Changed,
         }
     }
 }
+
+/// A law: what an edit leaves under a name may stand there, if what it found there might.
+pub fn edits_keep_kinds()
+    ensures { (edit : EditValue) (name : NameValue) (cell : Option CellValue)
+        → IsTrue (may_hold name cell) → IsTrue (may_leave name (hit edit name cell)) }
+{}

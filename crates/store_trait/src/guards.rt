@@ -3,12 +3,12 @@ ghost use Rattle.std.specs.Option.{option_copied};
 ghost use Rattle.store_trait.specs.Names.{same_id, same_state, may_stand};
 ghost use Rattle.txn_record.specs.declared.state.State.{State as StateValue};
 ghost use Rattle.txn_record.specs.declared.id.Token.{Token as TokenValue};
-ghost use Rattle.store_trait.specs.Edits.{same_token, has_token, is_updatable, hit, hit_insert_record, hit_move, hit_add_token, hit_update, hit_draw_nonce, hit_place};
+ghost use Rattle.store_trait.specs.Edits.{same_token, has_token, is_updatable, hit, hit_insert_record, hit_move, hit_add_token, hit_doc_update, hit_update, hit_draw_nonce, hit_place};
 
 use crate::cell::{Cell, DocCell};
 use crate::edit::Edit;
 use crate::name::Name;
-use txn_record::{Record, State, Token, TxnId, Update};
+use txn_record::{Record, State, Token, TxnId, Update, fits};
 
 /// Whether an edit hits the cell that stands under a name, if one does.
 pub fn hits(name: &Name, edit: &Edit, cell: Option<&Cell>) -> bool
@@ -61,11 +61,15 @@ fn updates(name: &Name, revno: i64, token: &Token, update: &Update, cell: Option
     ensures { result ≡ is_some (hit_update revno token.now update.now name.now (option_copied cell.entry)) }
 {
     match (name, cell) {
-        (Name::Doc(_), Some(Cell::Doc(doc))) => {
-            takes_update(doc, revno, token) && update.fits(&doc.body)
-        }
+        (Name::Doc(_), Some(Cell::Doc(doc))) => updates_doc(revno, token, update, doc),
         _ => false,
     }
+}
+
+fn updates_doc(revno: i64, token: &Token, update: &Update, doc: &DocCell) -> bool
+    ensures { result ≡ is_some (hit_doc_update revno token.now update.now doc.now) }
+{
+    takes_update(doc, revno, token) && fits(update, &doc.body)
 }
 
 fn draws_nonce(name: &Name, cell: Option<&Cell>) -> bool

@@ -10,7 +10,7 @@ mod side;
 mod store;
 
 pub use cell::{Cell, DocCell, Named, StashCell, Tokens, counter_in, doc_in, record_in, stash_in};
-pub use changes::{Changed, change};
+pub use changes::{Changed, change, edits_keep_kinds};
 pub use edit::{Edit, Edited};
 pub use guards::hits;
 pub use name::{Name, names_are_ordered};

@@ -5,17 +5,26 @@ ghost use Rattle.store_trait.specs.Names.{may_stand};
 ghost use Rattle.store_trait.specs.Contents.{Content, is_past, first_past, named};
 ghost use Rattle.store_trait.specs.Edits.{hit, edited, left};
 ghost use Rattle.store_trait.specs.Calls.{Exchange, Reads, Edits as EditsCell, Lists, OneCall};
+ghost use Rattle.store_trait.specs.declared.store.StoreError.TheVariants.{OutOfMemory};
 
 use crate::cell::{Cell, Named};
 use crate::edit::{Edit, Edited};
 use crate::name::Name;
-use std::alloc::Global;
+use std::alloc::{AllocError, Global};
 
 /// Why a call on a store was refused.
 #[derive(Clone, Copy, Debug, PartialEq, Eq)]
 pub enum StoreError {
     Failed,
     OutOfMemory,
+}
+
+impl From<AllocError> for StoreError {
+    ghost from_gives = { λ _ error. error ≡ OutOfMemory };
+
+    fn from(_error: AllocError) -> StoreError {
+        StoreError::OutOfMemory
+    }
 }
 
 /// A store of cells, of which one call reads or edits at most one.

@@ -1,1 +1,4 @@
 pub mod KeyOrder
+pub mod TokenTexts
+pub mod SortedEntries
+pub mod DocLists

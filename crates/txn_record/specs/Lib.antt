@@ -1,7 +1,6 @@
-pub mod Ids
-pub mod Keys
-pub mod Revnos
-pub mod States
-pub mod Transactions
 pub mod Updates
-pub mod Walks
+pub mod Transactions
+pub mod States
+pub mod Keys
+pub mod Ids
+pub mod Documents

@@ -11,12 +11,12 @@ mod record;
 mod state;
 mod update;
 
-pub use docs::Doc;
+pub use docs::{Doc, Docs};
 pub use entry::{Entry, Outcome};
-pub use id::{Token, TxnId, ids_are_ordered};
+pub use id::{Token, TxnId, ids_are_ordered, tokens_read_back};
 pub use key::{Key, keys_are_ordered};
 pub use op::{Assert, Change, Op};
 pub use ops::Ops;
 pub use record::Record;
 pub use state::State;
-pub use update::Update;
+pub use update::{Update, apply, fits};
