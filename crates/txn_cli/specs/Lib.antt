@@ -3,3 +3,8 @@ pub mod Gathering
 pub mod Lines
 pub mod Memory
 pub mod Pour
+pub mod Statements
+pub mod Stages
+pub mod Texts
+pub mod Play
+pub mod Faulting

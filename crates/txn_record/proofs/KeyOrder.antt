@@ -7,11 +7,12 @@ use Rattle.std.specs.declared.cmp.Ordering.{Ordering}
 use Rattle.std.specs.declared.cmp.Ordering.TheVariants.{Less, Equal, Greater}
 use Rattle.std.proofs.lemmas.Cmp.{nat_list_cmp_total, int_cmp_total, then_total, on_total, tied_itself}
 use Rattle.std.proofs.lemmas.Bool.{true≢false}
+use Rattle.doc_value.specs.Ids.{id_cmp as doc_id_cmp}
 use Rattle.doc_value.specs.declared.doc_id.DocId.{DocId}
 use Rattle.doc_value.specs.declared.doc_id.DocId.TheVariants.{Text, Int}
 use Rattle.txn_record.specs.declared.id.TxnId.{TxnId}
 use Rattle.txn_record.specs.declared.key.Key.{Key}
-use Rattle.txn_record.specs.Keys.{doc_id_cmp, key_cmp, id_cmp}
+use Rattle.txn_record.specs.Keys.{key_cmp, id_cmp}
 
 -- two steps of a comparison tie only where both do
 tied_parts : (r s : Ordering) → ordering_then r s ≡ Equal → (r ≡ Equal) × (s ≡ Equal)

@@ -6,3 +6,4 @@ pub mod DocumentLaws
 pub mod OrderLaws
 pub mod UpdateLaws
 pub mod WalkLaws
+pub mod FieldLaws

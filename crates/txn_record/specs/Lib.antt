@@ -5,4 +5,5 @@ pub mod Keys
 pub mod Ids
 pub mod Documents
 pub mod Operations
+pub mod Revnos
 pub mod Walks

@@ -1,8 +1,9 @@
-use Rattle.std.specs.Prelude.{ℕ, Bool, true, false, ◌||◌, ◌&&◌, not, ◌==◌, nat_eq, nat_lt, Option, Some, None, option_and_then, is_some, List, [], ◌∷◌, ◌++◌, length, filter, codes, if◌then◌else◌}
+use Rattle.std.specs.Prelude.{ℕ, Bool, true, false, ◌||◌, ◌&&◌, not, ◌==◌, nat_lt, Option, Some, None, option_and_then, is_some, List, [], ◌∷◌, ◌++◌, length, filter, codes, if◌then◌else◌}
 use Rattle.std.specs.Cmp.Lexicographic.{slice_cmp}
-use Rattle.std.specs.List.{list_any, starts_with}
+use Rattle.std.specs.List.{list_any}
 use Rattle.std.specs.Ordering.{nat_cmp, is_lt, is_gt}
 use Rattle.std.specs.Str.{bytes_eq}
+use Rattle.doc_value.specs.Names.{is_id_name, is_transaction_name, is_operator_name}
 use Rattle.doc_value.specs.declared.value.Named.{Named}
 use Rattle.doc_value.specs.declared.value.Value.{Value, Object, out-Value}
 use Rattle.doc_value.specs.declared.value.Value.TheOpen.{Value-F}
@@ -25,11 +26,11 @@ holds_byte byte name = list_any (λ b. b == byte) name
 
 -- No path: empty, longer than 1,024 bytes, with a NUL, or like an operator's name.
 abbrev pub is_bad_path : List ℕ → Bool
-is_bad_path name = (length name == 0) || nat_lt 1024 (length name) || holds_byte 0 name || starts_with nat_eq name (codes "$")
+is_bad_path name = (length name == 0) || nat_lt 1024 (length name) || holds_byte 0 name || is_operator_name name
 
 -- The fields that no update may touch: the id of the document, and those of its transactions.
 abbrev pub is_reserved : List ℕ → Bool
-is_reserved name = bytes_eq name (codes "_id") || starts_with nat_eq name (codes "txn-")
+is_reserved name = is_id_name name || is_transaction_name name
 
 -- a path of one part that may be set
 abbrev pub is_settable : List ℕ → Bool

@@ -2,7 +2,7 @@ ghost use Rattle.std.specs.Prelude.{◌≡◌, ◌↔◌, IfOk, IsTrue};
 ghost use Rattle.std.specs.Cmp.{IsTotalOrder};
 ghost use Rattle.std.specs.FinMap.{IsAntisymmetric};
 ghost use Rattle.doc_value.specs.declared.value.Value.{out-Value};
-ghost use Rattle.txn_record.specs.Keys.{doc_id_cmp, key_cmp};
+ghost use Rattle.txn_record.specs.Keys.{key_cmp};
 ghost use Rattle.txn_record.specs.Operations.{is_collection, is_text_id, doc_id_of, key_in};
 
 use doc_value::{DocId, OutOfMemory, Text, Value};
@@ -55,8 +55,8 @@ impl Key {
     pub fn compare(&self, other: &Key) -> Ordering
         ensures { result ≡ key_cmp self.now other.now }
     {
-        match self.c.as_bytes().cmp(&other.c.as_bytes()) {
-            Ordering::Equal => compare_ids(&self.d, &other.d),
+        match self.c.compare(&other.c) {
+            Ordering::Equal => self.d.compare(&other.d),
             unequal => unequal,
         }
     }
@@ -98,17 +98,6 @@ fn is_id_text(text: &[u8]) -> bool
     ensures { result ≡ is_text_id text.now }
 {
     !(text.len() > MAX_TEXT_ID || text.contains(&0))
-}
-
-fn compare_ids(one: &DocId, other: &DocId) -> Ordering
-    ensures { result ≡ doc_id_cmp one.now other.now }
-{
-    match (one, other) {
-        (DocId::Text(a), DocId::Text(b)) => a.as_bytes().cmp(&b.as_bytes()),
-        (DocId::Text(_), DocId::Int(_)) => Ordering::Less,
-        (DocId::Int(_), DocId::Text(_)) => Ordering::Greater,
-        (DocId::Int(m), DocId::Int(n)) => m.cmp(n),
-    }
 }
 
 /// A law: the order of keys is total, and only equal keys tie in it.

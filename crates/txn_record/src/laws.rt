@@ -1,13 +1,15 @@
 //! Laws of the sequential side: of operations on documents, and of recorded orders. The crates above
 //! cite them by these contracts.
-ghost use Rattle.std.specs.Prelude.{◌≡◌, ◌≢◌, [], ◌∷◌, ◌++◌, List, true, false, IsSomeAnd};
+ghost use Rattle.std.specs.Prelude.{◌≡◌, ◌≢◌, ℕ, [], ◌∷◌, ◌++◌, List, true, false, is_ok, IsSomeAnd};
 ghost use Rattle.std.specs.FinMap.{get};
+ghost use Rattle.std.specs.Str.{is_utf8};
+ghost use Rattle.doc_value.specs.Paths.{path_in};
 ghost use Rattle.doc_value.specs.declared.value.Value.{Value};
 ghost use Rattle.txn_record.specs.declared.entry.Entry.{Entry};
 ghost use Rattle.txn_record.specs.declared.key.Key.{Key};
 ghost use Rattle.txn_record.specs.declared.op.Op.{Op};
 ghost use Rattle.txn_record.specs.Documents.{Docs, effect_of, body_after, tests, outcome_effect, after, is_right, has_entry, legal};
-ghost use Rattle.txn_record.specs.Updates.{is_update, is_object, updated};
+ghost use Rattle.txn_record.specs.Updates.{holds_byte, is_settable, is_update, is_object, updated};
 
 /// An operation changes nothing but the body at its key.
 pub fn changes_are_local()
@@ -29,4 +31,9 @@ pub fn orders_grow()
 pub fn updates_fit_objects()
     ensures { (update body : Value) → is_update update ≡ true → is_object body ≡ true →
         IsSomeAnd (updated update body) (λ made. is_object made ≡ true) }
+{}
+
+/// A text without a dot may be set exactly where it is a path.
+pub fn settable_fields_are_paths()
+    ensures { (name : List ℕ) → is_utf8 name ≡ true → holds_byte 46 name ≡ false → is_settable name ≡ is_ok (path_in name) }
 {}

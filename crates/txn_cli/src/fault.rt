@@ -1,0 +1,129 @@
+//! Why a call, or a step of it, was refused.
+
+use doc_value::Text;
+use std::alloc::{AllocError, Global};
+use store_trait::{Name, StoreError};
+use txn_record::{Key, Token, TxnId};
+
+/// Why a step of a runner was refused. The step may be made again.
+#[derive(Drop)]
+pub enum StepError {
+    /// The store failed.
+    StoreFault,
+    /// The counter of nonces stands at its last value.
+    NoncesSpent,
+    /// The revision number of the key's owner has no room for another chain.
+    RevnoSpent { key: Key },
+    /// The record of a token is absent.
+    Lost { token: Token },
+    /// A record and what was read or answered at a name disagree.
+    Clash { id: TxnId, at: Name },
+    OutOfMemory,
+}
+
+impl From<AllocError> for StepError {
+    ghost use Rattle.txn_cli.specs.declared.fault.StepError.TheVariants.{OutOfMemory as NoMemory};
+
+    ghost from_gives = { λ _ error. error ≡ NoMemory };
+
+    fn from(_: AllocError) -> StepError {
+        StepError::OutOfMemory
+    }
+}
+
+impl From<StoreError> for StepError {
+    ghost use Rattle.txn_cli.specs.Faulting.{step_error_of};
+
+    ghost from_gives = { λ error step. step ≡ step_error_of error };
+
+    fn from(error: StoreError) -> StepError {
+        match error {
+            StoreError::Failed => StepError::StoreFault,
+            StoreError::OutOfMemory => StepError::OutOfMemory,
+        }
+    }
+}
+
+/// Why a call ended before the end of its script.
+#[derive(Drop)]
+pub enum Fault {
+    /// The words aren't in the grammar.
+    Words,
+    /// A line of the script was refused.
+    Line { line: u64, text: Text },
+    Store,
+    Input,
+    Output,
+    OutOfMemory,
+    /// Nonces or revision numbers are used up.
+    Spent(StepError),
+    /// The store answered what no sound store does.
+    Broken(StepError),
+    /// A record of a submitted transaction's id was there.
+    Repeated(TxnId),
+}
+
+impl Fault {
+    /// The status that a call ends with.
+    pub fn status(&self) -> u8 {
+        match self {
+            Fault::Words => 2,
+            Fault::Line { .. } => 3,
+            Fault::Store => 5,
+            Fault::Input => 6,
+            Fault::Output => 7,
+            Fault::OutOfMemory => 8,
+            Fault::Spent(_) => 9,
+            Fault::Broken(_) => 11,
+            Fault::Repeated(_) => 11,
+        }
+    }
+}
+
+impl From<AllocError> for Fault {
+    ghost use Rattle.txn_cli.specs.declared.fault.Fault.TheVariants.{OutOfMemory as NoMemory};
+
+    ghost from_gives = { λ _ fault. fault ≡ NoMemory };
+
+    fn from(_: AllocError) -> Fault {
+        Fault::OutOfMemory
+    }
+}
+
+impl From<StoreError> for Fault {
+    ghost use Rattle.txn_cli.specs.Faulting.{fault_of_store};
+
+    ghost from_gives = { λ error fault. fault ≡ fault_of_store error };
+
+    fn from(error: StoreError) -> Fault {
+        match error {
+            StoreError::Failed => Fault::Store,
+            StoreError::OutOfMemory => Fault::OutOfMemory,
+        }
+    }
+}
+
+impl From<StepError> for Fault {
+    ghost use Rattle.txn_cli.specs.Faulting.{fault_of_step};
+
+    ghost from_gives = { λ error fault. fault ≡ fault_of_step error };
+
+    fn from(error: StepError) -> Fault {
+        match error {
+            StepError::StoreFault => Fault::Store,
+            StepError::OutOfMemory => Fault::OutOfMemory,
+            StepError::NoncesSpent => Fault::Spent(StepError::NoncesSpent),
+            StepError::RevnoSpent { key } => Fault::Spent(StepError::RevnoSpent { key }),
+            StepError::Lost { token } => Fault::Broken(StepError::Lost { token }),
+            StepError::Clash { id, at } => Fault::Broken(StepError::Clash { id, at }),
+        }
+    }
+}
+
+/// The refusal of a line, by one of the texts of refusals.
+pub fn refused(alloc: Global, line: u64, text: &str) -> Fault {
+    match Text::from_str(alloc, text) {
+        Ok(text) => Fault::Line { line, text },
+        Err(_) => Fault::OutOfMemory,
+    }
+}

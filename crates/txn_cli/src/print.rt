@@ -1,0 +1,111 @@
+//! The lines that the program prints.
+
+ghost use Rattle.std.specs.Prelude.{◌≡◌, ◌++◌, OnOk};
+ghost use Rattle.txn_cli.specs.Texts.{document_line, id_json, outcome_line};
+
+use crate::fault::{Fault, StepError};
+use doc_value::{DocId, OutOfMemory, Value, push_text, push_value};
+use std::alloc::Global;
+use txn_record::{Doc, Key, Outcome, Token, TxnId};
+
+/// A document's line: its collection and id as JSON, and its body, with blanks between.
+pub fn push_document(out: &mut Vec<u8>, doc: &Doc) -> Result<(), OutOfMemory>
+    ensures { OnOk result (out.new.items ≡ out.old.items ++ document_line (doc.now.key, doc.now.body)) }
+{
+    push_text(out, doc.key.c.as_str())?;
+    out.push(b' ')?;
+    push_id(out, &doc.key.d)?;
+    out.push(b' ')?;
+    push_value(out, &doc.body)?;
+    out.push(b'\n')?;
+    Ok(())
+}
+
+/// The id of a document as JSON.
+fn push_id(out: &mut Vec<u8>, id: &DocId) -> Result<(), OutOfMemory>
+    ensures { OnOk result (out.new.items ≡ out.old.items ++ id_json id.now) }
+{
+    match id {
+        DocId::Text(text) => push_text(out, text.as_str()),
+        DocId::Int(number) => push_value(out, &Value::Int(*number)),
+    }
+}
+
+/// The line of a transaction's outcome: its id, a blank and a word.
+pub fn push_outcome(
+    alloc: Global,
+    out: &mut Vec<u8>,
+    id: TxnId,
+    outcome: Outcome,
+) -> Result<(), OutOfMemory>
+    ensures { OnOk result (out.new.items ≡ out.old.items ++ outcome_line id outcome) }
+{
+    let digits = id.print(alloc)?;
+    out.extend_from_slice(digits.as_slice())?;
+    match outcome {
+        Outcome::Applied => out.extend_from_slice(b" applied\n"),
+        Outcome::Aborted => out.extend_from_slice(b" aborted\n"),
+    }
+}
+
+const USAGE: &[u8] = b"usage: txn run [--db FILE] [--log FILE] | txn race [--log FILE] | txn grind N [--db FILE] [--log FILE]\n";
+
+/// The last line of the output after a refusal. After a fault of the output there is none.
+pub fn last_line(alloc: Global, fault: &Fault) -> Result<Vec<u8>, OutOfMemory> {
+    match fault {
+        Fault::Words => Vec::from_slice(alloc, USAGE),
+        Fault::Line { line, text } => refusal_line(alloc, *line, text.as_str()),
+        Fault::Store => Vec::from_slice(alloc, b"store fault\n"),
+        Fault::Input => Vec::from_slice(alloc, b"input fault\n"),
+        Fault::Output => Ok(Vec::new(alloc)),
+        Fault::OutOfMemory => Vec::from_slice(alloc, b"out of memory\n"),
+        Fault::Spent(error) => step_line(alloc, error),
+        Fault::Broken(error) => step_line(alloc, error),
+        Fault::Repeated(id) => clash_line(alloc, *id),
+    }
+}
+
+fn refusal_line(alloc: Global, line: u64, text: &str) -> Result<Vec<u8>, OutOfMemory> {
+    let mut out = Vec::from_slice(alloc, b"line ")?;
+    let mut buffer = itoa::Buffer::new();
+    out.extend_from_slice(buffer.format(line).as_bytes())?;
+    out.extend_from_slice(b": ")?;
+    out.extend_from_slice(text.as_bytes())?;
+    out.push(b'\n')?;
+    Ok(out)
+}
+
+/// The last line where a step of a runner was refused.
+fn step_line(alloc: Global, error: &StepError) -> Result<Vec<u8>, OutOfMemory> {
+    match error {
+        StepError::StoreFault => Vec::from_slice(alloc, b"store fault\n"),
+        StepError::NoncesSpent => Vec::from_slice(alloc, b"nonces spent\n"),
+        StepError::RevnoSpent { key } => revno_line(alloc, key),
+        StepError::Lost { token } => lost_line(alloc, token),
+        StepError::Clash { id, .. } => clash_line(alloc, *id),
+        StepError::OutOfMemory => Vec::from_slice(alloc, b"out of memory\n"),
+    }
+}
+
+fn revno_line(alloc: Global, key: &Key) -> Result<Vec<u8>, OutOfMemory> {
+    let mut out = Vec::from_slice(alloc, b"revno spent at doc ")?;
+    push_text(&mut out, key.c.as_str())?;
+    out.push(b' ')?;
+    push_id(&mut out, &key.d)?;
+    out.push(b'\n')?;
+    Ok(out)
+}
+
+fn lost_line(alloc: Global, token: &Token) -> Result<Vec<u8>, OutOfMemory> {
+    let mut out = Vec::from_slice(alloc, b"lost ")?;
+    out.extend_from_slice(token.print(alloc)?.as_slice())?;
+    out.push(b'\n')?;
+    Ok(out)
+}
+
+fn clash_line(alloc: Global, id: TxnId) -> Result<Vec<u8>, OutOfMemory> {
+    let mut out = Vec::from_slice(alloc, b"clash ")?;
+    out.extend_from_slice(id.print(alloc)?.as_slice())?;
+    out.push(b'\n')?;
+    Ok(out)
+}

@@ -1,0 +1,8 @@
+use txn_record::{Ops, TxnId};
+
+/// A transaction of the batch that the next `go` runs.
+#[derive(Drop)]
+pub struct Waiting {
+    pub id: TxnId,
+    pub ops: Ops,
+}

@@ -1,0 +1,50 @@
+use Rattle.std.specs.Prelude.{ℕ, ◌^◌, Bool, true, false, ◌&&◌, ◌||◌, nat_le, ℤ, pos, ◌+ℤ◌, int_lt, not, unsigned_abs, Option, Some, None, option_map, unwrap_or, List, [], ◌∷◌, if◌then◌else◌}
+use Rattle.std.specs.Ordering.{int_eq, is_eq}
+use Rattle.txn_record.specs.Keys.{key_cmp}
+use Rattle.txn_record.specs.declared.key.Key.{Key}
+use Rattle.txn_record.specs.declared.op.Op.{Op}
+use Rattle.txn_record.specs.declared.op.Change.{Change}
+use Rattle.txn_record.specs.declared.op.Change.TheVariants as change
+
+abbrev pub same_key : Key → Key → Bool
+same_key a b = is_eq (key_cmp a b)
+
+-- a number of 0 or more says that the document is present
+abbrev pub is_present : ℤ → Bool
+is_present revno = not (int_lt revno (pos 0))
+
+-- the number that a change leaves where it finds this one
+abbrev pub number_after : Change → ℤ → ℤ
+number_after (change.Update _) revno = if is_present revno then revno +ℤ pos 1 else revno
+
+-- the number that the first of these operations on a key finds
+abbrev pub first_on : Key → List Op → List ℤ → Option ℤ
+first_on key (op ∷ ops) (revno ∷ revnos) = if same_key key op.key then Some revno else first_on key ops revnos
+first_on key [] _ = None
+first_on key _ [] = None
+
+-- one number an operation, and each operation finds what the one before it on the same key left
+abbrev pub follows : List Op → List ℤ → Bool
+follows [] [] = true
+follows (op ∷ ops) (revno ∷ revnos) = unwrap_or (option_map (int_eq (number_after op.change revno)) (first_on op.key ops revnos)) true && follows ops revnos
+follows [] (_ ∷ _) = false
+follows (_ ∷ _) [] = false
+
+-- the greatest absolute value of a revision number
+abbrev pub revno_limit : ℕ
+revno_limit = 4611686018427387904
+
+abbrev pub is_within : ℤ → Bool
+is_within revno = nat_le (unsigned_abs revno) revno_limit
+
+-- no number of a chain passes the limit, its ends included
+abbrev pub stays_within : List Op → List ℤ → Bool
+stays_within (op ∷ ops) (revno ∷ revnos) = is_within revno && is_within (number_after op.change revno) && stays_within ops revnos
+stays_within [] _ = true
+stays_within _ [] = true
+
+-- whether a number is one of the chain's on a key, its end included
+abbrev pub is_on_chain : Key → ℤ → List Op → List ℤ → Bool
+is_on_chain key number (op ∷ ops) (revno ∷ revnos) = (same_key key op.key && (int_eq number revno || int_eq number (number_after op.change revno))) || is_on_chain key number ops revnos
+is_on_chain key number [] _ = false
+is_on_chain key number _ [] = false
