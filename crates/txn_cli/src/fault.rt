@@ -22,6 +22,7 @@ pub enum StepError {
 }
 
 impl From<AllocError> for StepError {
+    ghost use Rattle.std.specs.Prelude.{◌≡◌};
     ghost use Rattle.txn_cli.specs.declared.fault.StepError.TheVariants.{OutOfMemory as NoMemory};
 
     ghost from_gives = { λ _ error. error ≡ NoMemory };
@@ -32,6 +33,7 @@ impl From<AllocError> for StepError {
 }
 
 impl From<StoreError> for StepError {
+    ghost use Rattle.std.specs.Prelude.{◌≡◌};
     ghost use Rattle.txn_cli.specs.Faulting.{step_error_of};
 
     ghost from_gives = { λ error step. step ≡ step_error_of error };
@@ -81,6 +83,7 @@ impl Fault {
 }
 
 impl From<AllocError> for Fault {
+    ghost use Rattle.std.specs.Prelude.{◌≡◌};
     ghost use Rattle.txn_cli.specs.declared.fault.Fault.TheVariants.{OutOfMemory as NoMemory};
 
     ghost from_gives = { λ _ fault. fault ≡ NoMemory };
@@ -91,6 +94,7 @@ impl From<AllocError> for Fault {
 }
 
 impl From<StoreError> for Fault {
+    ghost use Rattle.std.specs.Prelude.{◌≡◌};
     ghost use Rattle.txn_cli.specs.Faulting.{fault_of_store};
 
     ghost from_gives = { λ error fault. fault ≡ fault_of_store error };
@@ -104,6 +108,7 @@ impl From<StoreError> for Fault {
 }
 
 impl From<StepError> for Fault {
+    ghost use Rattle.std.specs.Prelude.{◌≡◌};
     ghost use Rattle.txn_cli.specs.Faulting.{fault_of_step};
 
     ghost from_gives = { λ error fault. fault ≡ fault_of_step error };

@@ -1,7 +1,7 @@
 //! The lines that the program prints.
 
 ghost use Rattle.std.specs.Prelude.{◌≡◌, ◌++◌, OnOk};
-ghost use Rattle.txn_cli.specs.Texts.{document_line, id_json, outcome_line};
+ghost use Rattle.txn_cli.specs.Texts.{document_line, id_json, outcome_line, outcome_word};
 
 use crate::fault::{Fault, StepError};
 use doc_value::{DocId, OutOfMemory, Value, push_text, push_value};
@@ -42,9 +42,18 @@ pub fn push_outcome(
 {
     let digits = id.print(alloc)?;
     out.extend_from_slice(digits.as_slice())?;
+    out.push(b' ')?;
+    out.extend_from_slice(outcome_word(outcome))?;
+    out.push(b'\n')?;
+    Ok(())
+}
+
+fn outcome_word(outcome: Outcome) -> &'static [u8]
+    ensures { result.now ≡ outcome_word outcome }
+{
     match outcome {
-        Outcome::Applied => out.extend_from_slice(b" applied\n"),
-        Outcome::Aborted => out.extend_from_slice(b" aborted\n"),
+        Outcome::Applied => b"applied",
+        Outcome::Aborted => b"aborted",
     }
 }
 
