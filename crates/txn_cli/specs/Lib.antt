@@ -1,10 +1,11 @@
+pub mod Faulting
 pub mod Faults
 pub mod Gathering
 pub mod Lines
 pub mod Memory
-pub mod Pour
-pub mod Statements
-pub mod Stages
-pub mod Texts
 pub mod Play
-pub mod Faulting
+pub mod Pour
+pub mod Script
+pub mod Stages
+pub mod Statements
+pub mod Texts

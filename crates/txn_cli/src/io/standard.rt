@@ -1,4 +1,4 @@
-ghost use Rattle.std.specs.Prelude.{[], false};
+ghost use Rattle.std.specs.Prelude.{◌≡◌, [], false};
 
 use super::sink::Sink;
 use super::source::{Failed, Source};
@@ -12,7 +12,9 @@ pub struct StdSource {
 }
 
 impl StdSource {
-    pub fn new(stdin: Stdin) -> StdSource {
+    pub fn new(stdin: Stdin) -> StdSource
+        ensures { result.faults ≡ 0 }
+    {
         StdSource { stdin, faults: 0 }
     }
 }
@@ -43,7 +45,9 @@ pub struct StdSink {
 }
 
 impl StdSink {
-    pub fn new(stdout: Stdout) -> StdSink {
+    pub fn new(stdout: Stdout) -> StdSink
+        ensures { result.faults ≡ 0 }
+    {
         StdSink { stdout, faults: 0 }
     }
 }
