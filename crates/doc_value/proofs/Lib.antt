@@ -7,3 +7,5 @@ pub mod PlainUtf8
 pub mod JsonAgain
 pub mod DataOfValues
 pub mod RoundTrip
+pub mod BodyFields
+pub mod BodyAgain
