@@ -14,6 +14,9 @@ use Rattle.txn_record.specs.declared.key.Key.{Key}
 pub IsPast-empty : (key : Key) → IsPast key empty
 IsPast-empty key k there = absurd (true≢false (sym there ∙ ap is_some (get-empty key_cmp k)))
 
+pub IsPast-new : (docs : Docs) → docs ≡ empty → (key : Key) → IsPast key docs
+IsPast-new docs e key = subst (IsPast key) (sym e) (IsPast-empty key)
+
 pub IsPast-insert : (docs : Docs) (last : Key) (body : Value) (key : Key) → IsPast last docs → key_cmp last key ≡ Less → IsPast key (insert docs last body)
 IsPast-insert docs last body key past below k there = by (eq_by_cmp key_cmp k last) refl (sym (ap is_some (get-insert key_cmp_total docs last body k)) ∙ there)
   where

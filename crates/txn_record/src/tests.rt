@@ -228,6 +228,12 @@ fn states(rt: HostRuntime) -> Result<(), Fail> {
     Ok(())
 }
 
+fn only_document(alloc: Global, doc: Doc) -> Result<Docs, Fail> {
+    let mut docs = Docs::new(alloc);
+    docs.push(doc)?;
+    Ok(docs.copy(alloc)?)
+}
+
 #[test]
 fn entries_and_documents(rt: HostRuntime) -> Result<(), Fail> {
     let entry = Entry {
@@ -239,8 +245,7 @@ fn entries_and_documents(rt: HostRuntime) -> Result<(), Fail> {
     };
     let key = entry.copy(rt.alloc())?.ops.only().key.copy(rt.alloc())?;
     let body = value(rt.alloc(), "{}")?;
-    let mut docs = Docs::new(rt.alloc());
-    docs.push(Doc { key, body })?;
-    assert_eq!(rt; docs.copy(rt.alloc())?.as_slice().len(), 1);
+    let docs = only_document(rt.alloc(), Doc { key, body })?;
+    assert_eq!(rt; docs.as_slice().len(), 1);
     Ok(())
 }
