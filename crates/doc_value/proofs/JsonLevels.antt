@@ -1,7 +1,8 @@
 -- What a value of JSON says of the value that it stands for: nesting, refused names, order.
-use Rattle.std.proofs.Common.{◌≡◌, ℕ, suc, max, List, Bool, true, ◌||◌, map, refl, ap, ap₂, ◌∙◌, rules}
+use Rattle.std.proofs.Common.{◌≡◌, ℕ, suc, max, List, Bool, true, ◌||◌, map, Ordering, Less, Equal, Greater, nat_cmp, refl, sym, ap, ap₂, ◌∙◌, rules}
 use Rattle.std.specs.Ordering.{is_lt}
-use Rattle.std.proofs.lemmas.Bool.{and_from}
+use Rattle.std.specs.Cmp.Lexicographic.{slice_cmp}
+use Rattle.std.proofs.lemmas.Bool.{and_from, and_parts}
 use Rattle.serde_json.specs.Data.{Data, null, boolean, number, string, array, object, Items, no_items, item, Members, no_members, member, depth, items_depth, members_depth}
 use Rattle.doc_value.specs.declared.value.Named.{Named}
 use Rattle.doc_value.specs.declared.value.Value.{Value, List as Items_of, Object, the_lemmas}
@@ -93,3 +94,34 @@ mutual
   ordered-fields_of : (ms : Members) → MembersInOrder ms → fields_ordered (map (judged is_ordered) (fields_of ms)) ≡ true
   ordered-fields_of no_members h = refl
   ordered-fields_of (member k d ms) h = and_from _ _ (precedes-fields_of k ms h.0) (and_from _ _ (ordered-value_of d h.1) (ordered-fields_of ms h.2))
+
+-- ---- and back: what stands for an ordered value is in order
+
+less_is : (o : Ordering) → is_lt o ≡ true → o ≡ Less
+less_is Less h = refl
+less_is Equal h = cc
+less_is Greater h = cc
+
+IsBelow-precedes : (k : List ℕ) (ms : Members) → precedes k (map (judged is_ordered) (fields_of ms)) ≡ true → IsBelow k ms
+IsBelow-precedes k no_members h = tt
+IsBelow-precedes k (member l d ms) h = less_is (slice_cmp nat_cmp k l) h
+
+mutual
+  pub InOrder-is_ordered : (d : Data) → is_ordered (value_of d) ≡ true → InOrder d
+  InOrder-is_ordered null h = tt
+  InOrder-is_ordered (boolean b) h = tt
+  InOrder-is_ordered (number n) h = tt
+  InOrder-is_ordered (string s) h = tt
+  InOrder-is_ordered (array ds) h = ItemsInOrder-all_ordered ds (sym (ordered-List (values_of ds)) ∙ h)
+  InOrder-is_ordered (object ms) h = MembersInOrder-fields_ordered ms (sym (ordered-Object (fields_of ms)) ∙ h)
+
+  ItemsInOrder-all_ordered : (ds : Items) → all_ordered (map is_ordered (values_of ds)) ≡ true → ItemsInOrder ds
+  ItemsInOrder-all_ordered no_items h = tt
+  ItemsInOrder-all_ordered (item d ds) h = let p = and_parts _ _ h in (InOrder-is_ordered d p.0, ItemsInOrder-all_ordered ds p.1)
+
+  MembersInOrder-fields_ordered : (ms : Members) → fields_ordered (map (judged is_ordered) (fields_of ms)) ≡ true → MembersInOrder ms
+  MembersInOrder-fields_ordered no_members h = tt
+  MembersInOrder-fields_ordered (member k d ms) h =
+      let p = and_parts _ _ h in
+      let q = and_parts _ _ p.1 in
+      (IsBelow-precedes k ms p.0, InOrder-is_ordered d q.0, MembersInOrder-fields_ordered ms q.1)

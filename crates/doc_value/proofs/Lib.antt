@@ -2,3 +2,10 @@ pub mod Utf8Reading
 pub mod JsonOrder
 pub mod JsonLevels
 pub mod ReadValues
+pub mod PlainJson
+pub mod PlainUtf8
+pub mod JsonAgain
+pub mod DataOfValues
+pub mod RoundTrip
+pub mod BodyFields
+pub mod BodyAgain

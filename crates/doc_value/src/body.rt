@@ -1,6 +1,8 @@
-ghost use Rattle.std.specs.Prelude.{◌≡◌, ◌≢◌, IfOk, map, Err};
+ghost use Rattle.std.specs.Prelude.{◌≡◌, ◌≢◌, IfOk, map, Ok, Err};
 ghost use Rattle.std.specs.Option.{option_copied};
 ghost use Rattle.doc_value.specs.Bodies.{body_in, refused_inside, first_found, first_in_fields, refused_in_field, refused_at_top, first_refused, without_id};
+ghost use Rattle.doc_value.specs.Readable.{IsReadable};
+ghost use Rattle.doc_value.specs.declared.doc_id.DocId.{DocId};
 ghost use Rattle.doc_value.specs.Ids.{is_value_of_id};
 
 use crate::doc_id::DocId;
@@ -18,6 +20,8 @@ const MAX_BODY_NESTING: u32 = 90;
 /// top, which may stand there where it equals the id.
 pub fn read_body(alloc: Global, value: &Value, id: &DocId) -> Result<Value, BodyFault>
     ensures exact { result ≢ Err BodyFault.OutOfMemory → result ≡ body_in id.now value.now }
+    ensures again { IfOk result (λ body. (other : DocId) → body_in other body ≡ Ok body) }
+    ensures readable { IfOk result (λ body. IsReadable value.now → IsReadable body) }
 {
     let Value::Object(fields) = value else {
         return Err(BodyFault::NotObject);
@@ -57,10 +61,19 @@ fn refused_in_top_field<'a>(field: &'a Field, id: &DocId) -> Option<&'a Text>
     if name::is_refused(name) || name::is_of_transactions(name) {
         return Some(&field.name);
     }
-    first_refused_inside(&field.value)
+    field.value.refused_name()
 }
 
-/// The first name inside a value that no field of a body may have.
+impl Value {
+    /// The first name, in the order of a walk, that no field of a body may have at any depth: one that
+    /// holds a dot or begins with `$`.
+    pub fn refused_name(&self) -> Option<&Text>
+        ensures { option_copied result ≡ refused_inside self.now }
+    {
+        first_refused_inside(self)
+    }
+}
+
 #[cycle(refused)]
 fn first_refused_inside(value: &Value) -> Option<&Text>
     ensures { option_copied result ≡ refused_inside value.now }

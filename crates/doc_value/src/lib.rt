@@ -5,6 +5,7 @@ mod body;
 mod doc_id;
 mod equality;
 mod fault;
+mod laws;
 mod lookup;
 mod name;
 mod nesting;
@@ -17,9 +18,13 @@ mod value;
 pub use body::read_body;
 pub use doc_id::DocId;
 pub use fault::{BodyFault, PathFault, ValueFault};
+pub use laws::reads_back;
 pub use lookup::get;
 pub use path::Path;
 pub use print::{print_value, push_text, push_value};
 pub use read::read_value;
 pub use text::{OutOfMemory, Text};
 pub use value::{Field, Fields, Named, Value};
+
+#[cfg(test)]
+mod tests;

@@ -7,3 +7,4 @@ pub mod OrderLaws
 pub mod UpdateLaws
 pub mod WalkLaws
 pub mod FieldLaws
+pub mod RisingKeys

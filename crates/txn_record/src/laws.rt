@@ -1,20 +1,29 @@
 //! Laws of the sequential side: of operations on documents, and of recorded orders. The crates above
 //! cite them by these contracts.
 ghost use Rattle.std.specs.Prelude.{◌≡◌, ◌≢◌, ℕ, [], ◌∷◌, ◌++◌, List, true, false, is_ok, IsSomeAnd};
-ghost use Rattle.std.specs.FinMap.{get};
+ghost use Rattle.std.specs.declared.cmp.Ordering.TheVariants.{Less};
+ghost use Rattle.std.specs.FinMap.{empty, get, insert};
 ghost use Rattle.std.specs.Str.{is_utf8};
 ghost use Rattle.doc_value.specs.Paths.{path_in};
 ghost use Rattle.doc_value.specs.declared.value.Value.{Value};
 ghost use Rattle.txn_record.specs.declared.entry.Entry.{Entry};
 ghost use Rattle.txn_record.specs.declared.key.Key.{Key};
 ghost use Rattle.txn_record.specs.declared.op.Op.{Op};
-ghost use Rattle.txn_record.specs.Documents.{Docs, effect_of, body_after, tests, outcome_effect, after, is_right, has_entry, legal};
+ghost use Rattle.txn_record.specs.Documents.{Docs, IsPast, effect_of, body_after, tests, outcome_effect, after, is_right, has_entry, legal};
+ghost use Rattle.txn_record.specs.Keys.{key_cmp};
 ghost use Rattle.txn_record.specs.Updates.{holds_byte, is_settable, is_update, is_object, updated};
 
 /// An operation changes nothing but the body at its key.
 pub fn changes_are_local()
     ensures here { (op : Op) (docs : Docs) → get (effect_of op docs) op.key ≡ body_after op.change (get docs op.key) }
     ensures others { (op : Op) (docs : Docs) (key : Key) → key ≢ op.key → get (effect_of op docs) key ≡ get docs key }
+{}
+
+/// A key stands after the documents' keys until one that isn't below it is added.
+pub fn documents_rise()
+    ensures empty { (key : Key) → IsPast key empty }
+    ensures push { (docs : Docs) (last : Key) (body : Value) (key : Key) → IsPast last docs → key_cmp last key ≡ Less →
+        IsPast key (insert docs last body) }
 {}
 
 /// A recorded order grows at its end, by a transaction that was not there and was decided rightly.

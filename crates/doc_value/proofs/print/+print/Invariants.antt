@@ -1,9 +1,17 @@
 use Rattle.std.proofs.Common.{◌≡◌, ◌++◌, false, map, drop}
 use Rattle.doc_value.specs.Printing.{compact, compact_field, items_text, fields_text}
+use Rattle.doc_value.specs.Sound.{is_sound, all_sound, fields_sound, field_soundness}
 use Rattle.doc_value.proofs.print.+print.Given as goal
 
-abbrev pub invariant-push_items-loop-item : goal.invariant-push_items-loop-item
-invariant-push_items-loop-item l = l.out.items ++ items_text l.later (map compact (drop l.item-index l.items)) ≡ l.initial.out.items ++ items_text false (map compact l.items)
+-- what is written, before the text of what is left, is the whole; and all that was written is sound
+abbrev pub invariant-write_items-loop-item : goal.invariant-write_items-loop-item
+invariant-write_items-loop-item l = record {
+  written : l.out.items ++ items_text l.later (map compact (drop l.item-index l.items)) ≡ l.initial.out.items ++ items_text false (map compact l.items);
+  sound : all_sound (map is_sound (drop l.item-index l.items)) ≡ all_sound (map is_sound l.items);
+}
 
-abbrev pub invariant-push_fields-loop-field : goal.invariant-push_fields-loop-field
-invariant-push_fields-loop-field l = l.out.items ++ fields_text l.later (map compact_field (drop l.field-index l.fields)) ≡ l.initial.out.items ++ fields_text false (map compact_field l.fields)
+abbrev pub invariant-write_fields-loop-field : goal.invariant-write_fields-loop-field
+invariant-write_fields-loop-field l = record {
+  written : l.out.items ++ fields_text l.later (map compact_field (drop l.field-index l.fields)) ≡ l.initial.out.items ++ fields_text false (map compact_field l.fields);
+  sound : fields_sound (map field_soundness (drop l.field-index l.fields)) ≡ fields_sound (map field_soundness l.fields);
+}

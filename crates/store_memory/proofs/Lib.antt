@@ -1,0 +1,4 @@
+pub mod Search
+pub mod Trail
+pub mod Keeping
+pub mod CallLaws

@@ -1,0 +1,17 @@
+use Rattle.std.proofs.Common.{◌+◌, Some, sym, ap, ◌∙◌}
+use Rattle.store_memory.proofs.Keeping.{told_of, in_order, kept_put, put_found}
+use Rattle.store_memory.proofs.memory.MemoryStore.put.Goals as goal
+
+pub write-requires : goal.write-requires
+write-requires c = in_order c.self.inside.cells.items (told_of c.self.inside.log.items c.self.inside.fails.items c.self.inside.calls c.self.inside.faults) c.self.invariant
+
+pub invariant_of-self-2 : goal.invariant_of-self-2
+invariant_of-self-2 c =
+    let it = c.self.inside in
+    kept_put it.cells.items c.write.new.cells.items it.log.items c.write.new.log.items it.fails.items it.calls it.faults c.args.name.now c.args.after c.self.invariant c.requires.kind c.in_ok-cell.ensures.cells c.in_ok-cell.ensures.log
+
+pub returns-clause-after : goal.returns-clause-after
+returns-clause-after c =
+    let it = c.self.inside in
+    let kept = kept_put it.cells.items c.write.new.cells.items it.log.items c.write.new.log.items it.fails.items it.calls it.faults c.args.name.now c.args.after c.self.invariant c.requires.kind c.in_ok-cell.ensures.cells c.in_ok-cell.ensures.log in
+    ap Some c.in_ok-cell.ensures.answer ∙ sym (put_found it.cells.items c.write.new.cells.items (told_of c.write.new.log.items it.fails.items (it.calls + 1) it.faults) c.args.name.now c.args.after kept c.in_ok-cell.ensures.cells)

@@ -1,0 +1,17 @@
+use Rattle.std.proofs.Common.{◌+◌, sym}
+use Rattle.store_memory.proofs.Keeping.{told_of, in_order, kept_out, out_found}
+use Rattle.store_memory.proofs.memory.MemoryStore.take_out.Goals as goal
+
+pub erase-requires : goal.erase-requires
+erase-requires c = in_order c.self.inside.cells.items (told_of c.self.inside.log.items c.self.inside.fails.items c.self.inside.calls c.self.inside.faults) c.self.invariant
+
+pub invariant_of-self-2 : goal.invariant_of-self-2
+invariant_of-self-2 c =
+    let it = c.self.inside in
+    kept_out it.cells.items c.erase.new.cells.items it.log.items c.erase.new.log.items it.fails.items it.calls it.faults c.args.name.now c.self.invariant c.in_ok-erase.ensures.cells c.in_ok-erase.ensures.log
+
+pub returns-clause-after : goal.returns-clause-after
+returns-clause-after c =
+    let it = c.self.inside in
+    let kept = kept_out it.cells.items c.erase.new.cells.items it.log.items c.erase.new.log.items it.fails.items it.calls it.faults c.args.name.now c.self.invariant c.in_ok-erase.ensures.cells c.in_ok-erase.ensures.log in
+    sym (out_found it.cells.items c.erase.new.cells.items (told_of c.erase.new.log.items it.fails.items (it.calls + 1) it.faults) c.args.name.now kept c.in_ok-erase.ensures.cells)

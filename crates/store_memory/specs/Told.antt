@@ -1,0 +1,81 @@
+use Rattle.std.specs.Prelude.{◌≡◌, ℕ, ◌+◌, ◌≤◌, min, Bool, ◌||◌, ◌==◌, nat_le, Option, Some, None, List, [], ◌∷◌, ◌++◌, if◌then◌else◌, refl}
+use Rattle.std.specs.Coded.{Coded, code_by, coded×, coded_list, coded_ℕ}
+use Rattle.std.specs.List.{list_any}
+use Rattle.std.specs.FinMap.{empty}
+use Rattle.store_trait.specs.Contents.{Content}
+use Rattle.store_trait.specs.Edits.{Hit, put_under}
+use Rattle.store_trait.specs.declared.name.Name.{Name}
+use Rattle.store_memory.specs.declared.log.Logged.{Logged}
+
+-- what a store in memory tells: the changes of cells in the order of their calls, the numbers of the
+-- calls that fail, how many calls were made, and how many faults there were
+pub record Told : Type 0 where
+  pub log : List Logged
+  pub fails : List ℕ
+  pub calls : ℕ
+  pub faults : ℕ
+
+-- what is told is stored as the tuple of its fields
+abbrev pub told_code : Coded Logged → Coded Told
+told_code change = code_by (List Logged × (List ℕ × (ℕ × ℕ))) (coded× (coded_list change) (coded× (coded_list coded_ℕ) (coded× coded_ℕ coded_ℕ))) (λ told. (told.log, (told.fails, (told.calls, told.faults)))) (λ parts. record { log = parts.0; fails = parts.1.0; calls = parts.1.1.0; faults = parts.1.1.1 }) (λ _. refl)
+
+-- what a new store tells
+abbrev pub opened : List ℕ → Told
+opened fails = record { log = []; fails = fails; calls = 0; faults = 0 }
+
+-- the content with a change, if that was made by then
+abbrev pub with_change : ℕ → Logged → Content → Content
+with_change calls change content = if nat_le change.at calls then put_under content change.name (Some change.cell) else content
+
+-- the content after so many calls
+abbrev pub replayed : Content → List Logged → ℕ → Content
+replayed content [] calls = content
+replayed content (change ∷ log) calls = replayed (with_change calls change content) log calls
+
+-- the trail, which begins with an empty content
+abbrev pub place_of : Told → ℕ → Content
+place_of told calls = replayed empty told.log calls
+
+abbrev pub content_of : Told → Content
+content_of told = place_of told told.calls
+
+abbrev pub calls_of : Told → ℕ
+calls_of told = told.calls
+
+abbrev pub faults_of : Told → ℕ
+faults_of told = told.faults
+
+-- each change in a log was made by then
+abbrev pub IsMadeBy : ℕ → List Logged → Type 0
+IsMadeBy calls [] = Unit {0}
+IsMadeBy calls (change ∷ log) = (change.at ≤ calls) × IsMadeBy calls log
+
+-- how many faults a store counts at most
+abbrev pub fault_limit : ℕ
+fault_limit = 18446744073709551615
+
+-- what always holds of what is told: each change was made by now, and the faults can be counted
+pub record IsCounted (told : Told) : Type 0 where
+  pub made : IsMadeBy told.calls told.log
+  pub faults : told.faults ≤ fault_limit
+
+-- how many calls a store counts at most
+abbrev pub call_limit : ℕ
+call_limit = 9223372036854775808
+
+-- whether the next call fails: it is numbered so, or no call is counted any more
+abbrev pub fails_next : Told → Bool
+fails_next told = nat_le call_limit told.calls || list_any (λ call. call == told.calls + 1) told.fails
+
+-- what is told once the next call has failed
+abbrev pub failed : Told → Told
+failed told = record told { calls = if nat_le call_limit told.calls then told.calls else told.calls + 1; faults = min (told.faults + 1) fault_limit }
+
+-- what the log gets of an edit of a cell: nothing where it missed
+abbrev pub logged : ℕ → Name → Hit → List Logged
+logged call name None = []
+logged call name (Some after) = record { at = call; name = name; cell = after } ∷ []
+
+-- what is told once the next call was made, with these changes
+abbrev pub called : Told → List Logged → Told
+called told changes = record told { calls = told.calls + 1; log = told.log ++ changes }

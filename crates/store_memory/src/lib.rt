@@ -1,0 +1,9 @@
+//! A store in memory, which tells its content after each call: for runs and for tests.
+#![tactic(auto)]
+
+mod log;
+mod memory;
+mod places;
+mod store;
+
+pub use memory::MemoryStore;

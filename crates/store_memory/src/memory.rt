@@ -1,0 +1,302 @@
+ghost use Rattle.std.specs.Prelude.{◌≡◌, ◌+◌, ◌<◌, ◌≤◌, nat_le, if◌then◌else◌, [], ◌∷◌, ◌++◌, true, false, not, Some, None, vec_len, vec_capacity, IsTrue, IfOk, IfSome, OnOk, OnErr, is_some, option_map};
+ghost use Rattle.std.specs.Option.{option_copied};
+ghost use Rattle.std.specs.FinMap.{empty, get};
+ghost use Rattle.std.specs.FinMap.Entries.{put, is_sorted, where_key};
+ghost use Rattle.store_trait.specs.Names.{name_cmp, may_stand};
+ghost use Rattle.store_trait.specs.Contents.{is_past, first_past, named};
+ghost use Rattle.store_trait.specs.Edits.{hit, may_leave};
+ghost use Rattle.store_trait.specs.Changes.{as_hit};
+ghost use Rattle.std.specs.Ordering.{eq_by_cmp};
+ghost use Rattle.store_memory.specs.Told.{opened, content_of, IsCounted, call_limit, fails_next, failed, logged, called};
+ghost use Rattle.store_memory.specs.CallsMade.{IsCall};
+
+use crate::log::Logged;
+use crate::places;
+use doc_value::OutOfMemory;
+use std::alloc::Global;
+use std::marker::Model;
+use store_trait::{Cell, Changed, Edit, Edited, Name, Named, StoreError, change};
+
+/// How many calls are counted at most.
+const CALL_LIMIT: u64 = 1 << 63;
+
+/// A store in memory. It keeps the cells in the order of their names, and the log of their changes,
+/// from which it tells the content after each call. Chosen calls fail.
+#[derive(Drop)]
+pub struct MemoryStore {
+    cells: Vec<(Name, Cell)>,
+    log: Vec<Logged>,
+    fails: Vec<u64>,
+    calls: u64,
+    faults: u64,
+}
+
+impl Model for MemoryStore {
+    ghost use Rattle.store_memory.specs.Told.{Told, told_code};
+    ghost use Rattle.store_memory.specs.CallsMade.{IsKept};
+    ghost use Rattle.store_memory.specs.contracts.log.Logged as logged;
+
+    ghost Value = { Told };
+
+    ghost coded = { told_code logged.the_row.coded };
+
+    ghost view = { λ s. record { log = s.log.items; fails = s.fails.items; calls = s.calls; faults = s.faults } };
+
+    ghost invariant = { λ s. IsKept s.cells.items (record { log = s.log.items; fails = s.fails.items; calls = s.calls; faults = s.faults }) };
+}
+
+impl MemoryStore {
+    /// An empty store of which the calls with these numbers, from 1, fail.
+    pub fn new(alloc: Global, fails: Vec<u64>) -> Result<MemoryStore, OutOfMemory>
+        ensures told { IfOk result (λ made. made ≡ opened fails.items) }
+        ensures empty { IfOk result (λ made. content_of made ≡ empty) }
+    {
+        Ok(MemoryStore {
+            cells: Vec::new(alloc),
+            log: Vec::new(alloc),
+            fails,
+            calls: 0,
+            faults: 0,
+        })
+    }
+
+    /// How many calls were made.
+    pub(crate) fn count(&self) -> u64
+        ensures { result ≡ self.now.calls }
+    {
+        self.calls
+    }
+
+    /// Whether the next call fails.
+    fn fails_next(&self) -> bool
+        ensures test { result ≡ fails_next self.now }
+    {
+        self.calls >= CALL_LIMIT || self.fails.contains(&(self.calls + 1))
+    }
+
+    /// Counts a call that fails, and its fault.
+    fn fail(&mut self) -> StoreError
+        ensures told { self.new ≡ failed self.old }
+        ensures error { result ≡ StoreError.Failed }
+        ensures counted { IsCounted self.old }
+    {
+        self.calls = counted_failure(self.calls);
+        self.faults = self.faults.saturating_add(1);
+        StoreError::Failed
+    }
+
+    /// The cell under a name.
+    pub(crate) fn find(&mut self, alloc: Global, name: &Name) -> Result<Option<Cell>, StoreError>
+        ensures found { IfOk result (λ found. found ≡ get (content_of self.old) name.now) }
+        ensures kind { IfOk result (λ found. IfSome found (λ cell. IsTrue (may_stand name.now cell))) }
+        ensures call { IsCall self.old self.new [] result }
+    {
+        if self.fails_next() {
+            return Err(self.fail());
+        }
+        let found = places::copy_under(alloc, &self.cells, name)?;
+        self.calls += 1;
+        Ok(found)
+    }
+
+    /// The first cell past a name, or the first of all.
+    pub(crate) fn find_past(
+        &mut self,
+        alloc: Global,
+        after: Option<&Name>,
+    ) -> Result<Option<Named>, StoreError>
+        ensures found { IfOk result
+            (λ found. found ≡ option_map named (first_past (option_copied after.entry) (content_of self.old))) }
+        ensures past { IfOk result
+            (λ found. IfSome found (λ it. IsTrue (is_past (option_copied after.entry) it.name))) }
+        ensures kind { IfOk result (λ found. IfSome found (λ it. IsTrue (may_stand it.name it.cell))) }
+        ensures call { IsCall self.old self.new [] result }
+    {
+        if self.fails_next() {
+            return Err(self.fail());
+        }
+        let found = places::copy_past(alloc, &self.cells, after)?;
+        self.calls += 1;
+        Ok(found)
+    }
+
+    /// Makes an edit of the cell under a name, where its guard holds.
+    pub(crate) fn make(
+        &mut self,
+        alloc: Global,
+        name: &Name,
+        edit: &Edit,
+    ) -> Result<Edited, StoreError>
+        ensures hit { IfOk result
+            (λ done. done.hit ≡ is_some (hit edit.now name.now (get (content_of self.old) name.now))) }
+        ensures after { IfOk result (λ done. done.cell ≡ get (content_of self.new) name.now) }
+        ensures kind { IfOk result (λ done. IfSome done.cell (λ cell. IsTrue (may_stand name.now cell))) }
+        ensures call { IsCall self.old self.new
+            (logged (self.old.calls + 1) name.now (hit edit.now name.now (get (content_of self.old) name.now)))
+            result }
+    {
+        if self.fails_next() {
+            return Err(self.fail());
+        }
+        Ok(self.apply(alloc, name, edit)?)
+    }
+
+    /// Makes an edit in a call that doesn't fail.
+    fn apply(&mut self, alloc: Global, name: &Name, edit: &Edit) -> Result<Edited, OutOfMemory>
+        requires { self.old.calls < call_limit }
+        ensures hit { IfOk result
+            (λ done. done.hit ≡ is_some (hit edit.now name.now (get (content_of self.old) name.now))) }
+        ensures after { IfOk result (λ done. done.cell ≡ get (content_of self.new) name.now) }
+        ensures kind { IfOk result (λ done. IfSome done.cell (λ cell. IsTrue (may_stand name.now cell))) }
+        ensures told { OnOk result (self.new ≡ called self.old
+            (logged (self.old.calls + 1) name.now (hit edit.now name.now (get (content_of self.old) name.now)))) }
+        ensures err { OnErr result (self.new ≡ self.old) }
+        ensures counted { IsCounted self.old }
+    {
+        match self.changed(alloc, name, edit)? {
+            Changed::Missed => self.miss(alloc, name),
+            Changed::Put(after) => self.put(alloc, name, after),
+            Changed::Gone => self.take_out(alloc, name),
+        }
+    }
+
+    /// What an edit makes of the cell under a name.
+    fn changed(&self, alloc: Global, name: &Name, edit: &Edit) -> Result<Changed, OutOfMemory>
+        ensures hit { IfOk result
+            (λ changed. as_hit changed ≡ hit edit.now name.now (get (content_of self.now) name.now)) }
+        ensures kind { IfOk result (λ changed. IsTrue (may_leave name.now (as_hit changed))) }
+        ensures counted { IsCounted self.now }
+    {
+        change(alloc, name, edit, places::look(&self.cells, name))
+    }
+
+    /// Counts an edit that missed.
+    fn miss(&mut self, alloc: Global, name: &Name) -> Result<Edited, OutOfMemory>
+        requires { self.old.calls < call_limit }
+        ensures hit { IfOk result (λ done. done.hit ≡ false) }
+        ensures after { IfOk result (λ done. done.cell ≡ get (content_of self.new) name.now) }
+        ensures kind { IfOk result (λ done. IfSome done.cell (λ cell. IsTrue (may_stand name.now cell))) }
+        ensures told { OnOk result (self.new ≡ called self.old (logged (self.old.calls + 1) name.now None)) }
+        ensures err { OnErr result (self.new ≡ self.old) }
+    {
+        let cell = places::copy_under(alloc, &self.cells, name)?;
+        self.calls += 1;
+        Ok(Edited { hit: false, cell })
+    }
+
+    /// Puts a cell under a name, and counts the call.
+    fn put(&mut self, alloc: Global, name: &Name, after: Cell) -> Result<Edited, OutOfMemory>
+        requires room { self.old.calls < call_limit }
+        requires kind { IsTrue (may_stand name.now after) }
+        ensures hit { IfOk result (λ done. done.hit ≡ true) }
+        ensures after { IfOk result (λ done. done.cell ≡ get (content_of self.new) name.now) }
+        ensures kind { IfOk result (λ done. IfSome done.cell (λ cell. IsTrue (may_stand name.now cell))) }
+        ensures told { OnOk result (self.new ≡ called self.old (logged (self.old.calls + 1) name.now (Some (Some after)))) }
+        ensures err { OnErr result (self.new ≡ self.old) }
+    {
+        let cell = write(
+            alloc,
+            &mut self.cells,
+            &mut self.log,
+            self.calls + 1,
+            name,
+            after,
+        )?;
+        self.calls += 1;
+        Ok(Edited {
+            hit: true,
+            cell: Some(cell),
+        })
+    }
+
+    /// Takes out the cell under a name, and counts the call.
+    fn take_out(&mut self, alloc: Global, name: &Name) -> Result<Edited, OutOfMemory>
+        requires { self.old.calls < call_limit }
+        ensures hit { IfOk result (λ done. done.hit ≡ true) }
+        ensures after { IfOk result (λ done. done.cell ≡ get (content_of self.new) name.now) }
+        ensures kind { IfOk result (λ done. IfSome done.cell (λ cell. IsTrue (may_stand name.now cell))) }
+        ensures told { OnOk result (self.new ≡ called self.old (logged (self.old.calls + 1) name.now (Some None))) }
+        ensures err { OnErr result (self.new ≡ self.old) }
+    {
+        erase(alloc, &mut self.cells, &mut self.log, self.calls + 1, name)?;
+        self.calls += 1;
+        Ok(Edited {
+            hit: true,
+            cell: None,
+        })
+    }
+}
+
+/// How many calls are counted once one has failed.
+fn counted_failure(calls: u64) -> u64
+    ensures count { result ≡ (if nat_le call_limit calls then calls else calls + 1) }
+    ensures later { calls ≤ result }
+{
+    if calls < CALL_LIMIT { calls + 1 } else { calls }
+}
+
+/// Puts a cell under a name and into the log, and answers a copy. Memory is taken first.
+fn write(
+    alloc: Global,
+    cells: &mut Vec<(Name, Cell)>,
+    log: &mut Vec<Logged>,
+    call: u64,
+    name: &Name,
+    after: Cell,
+) -> Result<Cell, OutOfMemory>
+    requires { IsTrue (is_sorted name_cmp cells.old.items) }
+    ensures answer { IfOk result (λ cell. cell ≡ after) }
+    ensures cells { OnOk result (cells.new.items ≡ put name_cmp name.now after cells.old.items) }
+    ensures log { OnOk result (log.new.items ≡ log.old.items ++ logged call name.now (Some (Some after))) }
+    ensures cells_err { OnErr result (cells.new.items ≡ cells.old.items) }
+    ensures log_err { OnErr result (log.new.items ≡ log.old.items) }
+{
+    let answer = after.copy(alloc)?;
+    let cell = after.copy(alloc)?;
+    let change = Logged {
+        at: call,
+        name: name.copy(alloc)?,
+        cell: Some(cell),
+    };
+    log.reserve(1)?;
+    places::put(alloc, cells, name, after)?;
+    note(log, change);
+    Ok(answer)
+}
+
+/// Takes out the cell under a name, and notes that in the log. Memory is taken first.
+fn erase(
+    alloc: Global,
+    cells: &mut Vec<(Name, Cell)>,
+    log: &mut Vec<Logged>,
+    call: u64,
+    name: &Name,
+) -> Result<(), OutOfMemory>
+    requires { IsTrue (is_sorted name_cmp cells.old.items) }
+    ensures cells { OnOk result (cells.new.items
+        ≡ where_key name_cmp (λ other. not (eq_by_cmp name_cmp name.now other)) cells.old.items) }
+    ensures log { OnOk result (log.new.items ≡ log.old.items ++ logged call name.now (Some None)) }
+    ensures cells_err { OnErr result (cells.new.items ≡ cells.old.items) }
+    ensures log_err { OnErr result (log.new.items ≡ log.old.items) }
+{
+    let change = Logged {
+        at: call,
+        name: name.copy(alloc)?,
+        cell: None,
+    };
+    log.reserve(1)?;
+    note(log, change);
+    places::take_out(cells, name);
+    Ok(())
+}
+
+/// Adds a change to a log that has room for it.
+fn note(log: &mut Vec<Logged>, change: Logged)
+    requires { vec_len log.old < vec_capacity log.old }
+    ensures { log.new.items ≡ log.old.items ++ change ∷ [] }
+{
+    match log.push(change) {
+        Ok(()) => {}
+        Err(_) => unreachable!(),
+    }
+}
