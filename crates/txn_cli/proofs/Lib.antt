@@ -4,3 +4,4 @@ pub mod Limits
 pub mod Newlines
 pub mod Pieces
 pub mod Script
+pub mod IndexLaws

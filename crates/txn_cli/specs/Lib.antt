@@ -9,3 +9,6 @@ pub mod Script
 pub mod Stages
 pub mod Statements
 pub mod Texts
+pub mod Index
+pub mod Refusals
+pub mod Outcomes

@@ -1,35 +1,35 @@
-use Rattle.std.specs.Prelude.{◌≡◌, ℕ, ◌+◌, ◌&&◌, Bool, true, false, not, nat_lt, pos, List, [], ◌∷◌, ◌++◌, length, Option, Some, None, is_some, is_none, Result, Ok, Err}
+use Rattle.std.specs.Prelude.{◌≡◌, ℕ, zero, suc, ◌-◌, ◌+◌, ◌&&◌, ◌⊎◌, Bool, true, false, not, nat_lt, pos, List, [], ◌∷◌, ◌++◌, length, Option, Some, None, is_some, Result, Ok, Err, codes}
 use Rattle.std.specs.FinMap.{get, insert}
-use Rattle.std.specs.List.{list_any, list_all, flat_map, zip}
+use Rattle.std.specs.List.{list_any, list_all}
 use Rattle.doc_value.specs.declared.value.Value.{Value}
 use Rattle.txn_record.specs.declared.id.TxnId.{TxnId}
 use Rattle.txn_record.specs.declared.key.Key.{Key}
 use Rattle.txn_record.specs.declared.op.Op.{Op}
-use Rattle.txn_record.specs.declared.entry.Outcome.{Outcome}
 use Rattle.store_trait.specs.Contents.{Content}
 use Rattle.store_trait.specs.Names.{same_id}
-use Rattle.store_trait.specs.Meaning.{meaning}
 use Rattle.store_trait.specs.declared.cell.Cell.{Cell}
 use Rattle.store_trait.specs.declared.cell.Cell.TheVariants as cell
 use Rattle.store_trait.specs.declared.name.Name.TheVariants as name
+use Rattle.std.specs.Str.{bytes_eq}
+use Rattle.txn_cli.specs.Lines.{first_line, after_line, reading}
+use Rattle.txn_cli.specs.declared.io.lines.LineFault.TheVariants as line_fault
+use Rattle.txn_cli.specs.declared.fault.Fault.{Fault}
+use Rattle.txn_cli.specs.declared.fault.Fault.TheVariants as fault
 use Rattle.txn_cli.specs.Statements.{line_in}
-use Rattle.txn_cli.specs.Texts.{documents_text, outcome_line}
-use Rattle.txn_cli.specs.declared.done.Run.{Run}
 use Rattle.txn_cli.specs.declared.statement.Statement.{Statement}
 use Rattle.txn_cli.specs.declared.statement.Statement.TheVariants as statement
+use Rattle.txn_cli.specs.declared.statement.ScriptFault.{ScriptFault}
 use Rattle.txn_cli.specs.declared.waiting.Waiting.{Waiting}
 
--- How far a script has come: what the store holds, the transactions that wait, whether a statement
--- other than `doc` stood already, what was printed, and what the batches made.
+-- How far a script has come: what the store holds, the transactions that wait, and whether a
+-- statement other than `doc` stood already.
 pub record Progress : Type 0 where
   pub content : Content
   pub waiting : List Waiting
   pub begun : Bool
-  pub printed : List ℕ
-  pub runs : List Run
 
-abbrev pub opening : Content → Progress
-opening content = record { content = content; waiting = []; begun = false; printed = []; runs = [] }
+abbrev pub progress : Content → List Waiting → Bool → Progress
+progress content waiting begun = record { content = content; waiting = waiting; begun = begun }
 
 -- a document as a `doc` line places it
 abbrev pub placed_doc : Value → Cell
@@ -44,24 +44,23 @@ has_record content id = is_some (get content (name.Record id))
 abbrev pub waits : List Waiting → TxnId → Bool
 waits waiting id = list_any (λ other. same_id other.id id) waiting
 
+-- how many transactions may wait
+abbrev pub most_waiting : ℕ
+most_waiting = 10000
+
 -- Which statements are built. A `doc` line stands before every other statement and names a key that
 -- has no document. A transaction is on documents that are there, under an id that has no record and
 -- doesn't wait, and fewer than 10,000 wait.
 abbrev pub is_allowed : Progress → Statement → Bool
 is_allowed p (statement.Doc key body) = not p.begun && not (has_document p.content key)
-is_allowed p (statement.Submit id ops) = nat_lt (length p.waiting) 10000 && not (has_record p.content id) && not (waits p.waiting id) && list_all (λ op. has_document p.content op.key) ops
+is_allowed p (statement.Submit id ops) = nat_lt (length p.waiting) most_waiting && not (waits p.waiting id) && not (has_record p.content id) && list_all (λ op. has_document p.content op.key) ops
 is_allowed p statement.Go = true
 is_allowed p statement.Show = true
 
--- the batch was run: nothing waits any more, and a Run was kept
+-- the batch was run: nothing waits any more
 pub record RunsBatch (p q : Progress) : Type 0 where
-  pub run : Run
-  pub kept : q.runs ≡ p.runs ++ run ∷ []
   pub none_waits : q.waiting ≡ []
   pub begun : q.begun ≡ true
-  pub outcomes : List Outcome
-  pub each : length outcomes ≡ length p.waiting
-  pub printed : q.printed ≡ p.printed ++ flat_map (λ pair. outcome_line pair.0.id pair.1) (zip p.waiting outcomes)
 
 -- a waiting batch runs by itself, where one waits
 abbrev pub RunsWaiting : List Waiting → Progress → Progress → Type 0
@@ -69,23 +68,66 @@ RunsWaiting [] p q = q ≡ p
 RunsWaiting (_ ∷ _) p q = RunsBatch p q
 
 -- what a statement does
-pub data Performs : Statement → Progress → Progress → Type 0 where
-  Places : (key : Key) (body : Value) (p : Progress) → Performs (statement.Doc key body) p (record p { content = insert p.content (name.Doc key) (placed_doc body) })
-  Submits : (id : TxnId) (ops : List Op) (p : Progress) → Performs (statement.Submit id ops) p (record p { waiting = p.waiting ++ record { id = id; ops = ops } ∷ []; begun = true })
-  Goes : (p q : Progress) → RunsBatch p q → Performs statement.Go p q
-  Shows : (p q : Progress) → RunsWaiting p.waiting p q → Performs statement.Show p (record q { printed = q.printed ++ documents_text (meaning q.content); begun = true })
+abbrev pub Performs : Statement → Progress → Progress → Type 0
+Performs (statement.Doc key body) p q = q ≡ record p { content = insert p.content (name.Doc key) (placed_doc body) }
+Performs (statement.Submit id ops) p q = q ≡ record p { waiting = p.waiting ++ record { id = id; ops = ops } ∷ []; begun = true }
+Performs statement.Go p q = RunsBatch p q
+Performs statement.Show p q = (r : Progress) × RunsWaiting p.waiting p r × (q ≡ record r { begun = true })
 
--- the lines were done, one after the other
-pub data Plays (c : Content) : List (List ℕ) → Progress → Type 0 where
-  Opens : Plays c [] (opening c)
-  Skips : (lines : List (List ℕ)) (line : List ℕ) (p : Progress) → Plays c lines p → line_in line ≡ Ok None → Plays c (lines ++ line ∷ []) p
-  Does : (lines : List (List ℕ)) (line : List ℕ) (s : Statement) (p q : Progress) → Plays c lines p → line_in line ≡ Ok (Some s) → is_allowed p s ≡ true → Performs s p q → Plays c (lines ++ line ∷ []) q
+-- a statement that is built was done
+pub record Does (s : Statement) (p q : Progress) : Type 0 where
+  pub allowed : is_allowed p s ≡ true
+  pub performs : Performs s p q
 
--- a line that is no statement, or one that isn't built
-abbrev pub IsRefused : Progress → List ℕ → Type 0
-IsRefused p line = RefusedAs p (line_in line)
+-- a line was done: it was skipped, or its statement was done
+abbrev pub PlaysAs : Result (Option Statement) ScriptFault → Progress → Progress → Type 0
+PlaysAs (Ok None) p q = q ≡ p
+PlaysAs (Ok (Some s)) p q = Does s p q
+PlaysAs (Err _) p q = ⊥
 
-abbrev pub RefusedAs : Progress → Result (Option Statement) ScriptFault → Type 0
-RefusedAs p (Ok None) = ⊥
-RefusedAs p (Ok (Some s)) = is_allowed p s ≡ false
-RefusedAs p (Err _) = Unit {0}
+abbrev pub PlaysLine : List ℕ → Progress → Progress → Type 0
+PlaysLine line p q = PlaysAs (line_in line) p q
+
+-- a line is refused: it is no statement, or one that isn't built
+abbrev pub RefusedAs : Result (Option Statement) ScriptFault → Progress → Type 0
+RefusedAs (Ok None) p = ⊥
+RefusedAs (Ok (Some s)) p = is_allowed p s ≡ false
+RefusedAs (Err _) p = Unit {0}
+
+abbrev pub IsRefused : List ℕ → Progress → Type 0
+IsRefused line p = RefusedAs (line_in line) p
+
+-- the bytes of a script behind its first n lines
+abbrev pub after_lines : ℕ → List ℕ → List ℕ
+after_lines zero script = script
+after_lines (suc n) script = after_line (after_lines n script)
+
+-- the first n lines of a script were done over a store that held this, one after the other
+pub data Plays (script : List ℕ) (opening : Progress) : ℕ → Progress → Type 0 where
+  Opens : Plays script opening 0 opening
+  Then : (n : ℕ) (line : List ℕ) (p q : Progress) → Plays script opening n p → first_line (after_lines n script) ≡ Some line → PlaysLine line p q → Plays script opening (n + 1) q
+
+-- every line of a script was done, and the batch that waited at its end was run
+pub record IsPlayed (script : List ℕ) (opening : Progress) : Type 0 where
+  pub count : ℕ
+  pub last : Progress
+  pub plays : Plays script opening count last
+  pub ended : after_lines count script ≡ []
+  pub end : Progress
+  pub runs : RunsWaiting last.waiting last end
+
+-- how many bytes the first n lines of a script take, their newlines among them
+abbrev pub taken_by : ℕ → List ℕ → ℕ
+taken_by n script = length script - length (after_lines n script)
+
+-- The line that a script is refused at: the first that isn't done. It is refused by its length, by
+-- that of the script up to it, or for what it states.
+pub data Refuses (script : List ℕ) (opening : Progress) : Fault → Type 0 where
+  NotBuilt : (n : ℕ) (p : Progress) (line : List ℕ) → Plays script opening n p → first_line (after_lines n script) ≡ Some line → IsRefused line p → Refuses script opening (fault.Line (n + 1) (codes "not built yet"))
+  TooLong : (n : ℕ) (p : Progress) → Plays script opening n p → reading (taken_by n script) (after_lines n script) ≡ Err line_fault.TooLong → Refuses script opening (fault.Line (n + 1) (codes "too long"))
+  ScriptTooLong : (n : ℕ) (p : Progress) → Plays script opening n p → reading (taken_by n script) (after_lines n script) ≡ Err line_fault.ScriptTooLong → Refuses script opening (fault.Line (n + 1) (codes "script too long"))
+
+-- the words of the program: the one word `run`
+abbrev pub is_grammar : List (List ℕ) → Bool
+is_grammar (word ∷ []) = bytes_eq word (codes "run")
+is_grammar _ = false

@@ -17,8 +17,11 @@ use Rattle.txn_cli.specs.declared.statement.ScriptFault.{ScriptFault}
 use Rattle.txn_cli.specs.declared.statement.ScriptFault.TheVariants.{NotBuilt}
 
 -- blanks, tabs and carriage returns alone, or a comment
+abbrev pub is_blank_byte : ℕ → Bool
+is_blank_byte byte = byte == 32 || byte == 9 || byte == 13
+
 abbrev pub is_skipped : List ℕ → Bool
-is_skipped line = starts_with nat_eq line (codes "#") || list_all (λ byte. byte == 32 || byte == 9 || byte == 13) line
+is_skipped line = starts_with nat_eq line (codes "#") || list_all is_blank_byte line
 
 -- {"doc":[COLLECTION,ID],"body":BODY}
 abbrev pub doc_under : Value → Key → Option Statement

@@ -1,5 +1,15 @@
 //! The top call.
 
+ghost use Rattle.std.specs.Prelude.{◌≡◌, ◌≢◌, ◌≤◌, ◌⊎◌, ℕ, true, false, IsTrue, OnOk, IfOk, IfErr, IfSome, IfNone, IsErrOf, map, string_bytes, if◌then◌else◌};
+ghost use Rattle.std.specs.FinMap.{empty};
+ghost use Rattle.std.specs.List.{list_any};
+ghost use Rattle.store_trait.specs.Calls.{CallsGoOn, Rose};
+ghost use Rattle.txn_cli.specs.Faulting.{status_of};
+ghost use Rattle.txn_cli.specs.Outcomes.{has_aborted, is_aborted};
+ghost use Rattle.txn_cli.specs.Play.{progress, IsPlayed, Refuses, PlaysLine, IsRefused, is_grammar};
+ghost use Rattle.txn_cli.specs.Refusals.{IsOfLine, not_built};
+
+use crate::batch::Batch;
 use crate::done::{Done, Run};
 use crate::fault::{Fault, refused};
 use crate::io::{LineFault, Lines, Sink, Source, pour};
@@ -7,8 +17,8 @@ use crate::print::last_line;
 use crate::session::Session;
 use crate::statement::{ScriptFault, read_line};
 use std::alloc::Global;
-use store_trait::Store;
-use txn_record::Outcome;
+use store_trait::{Store, StoreError};
+use txn_record::{Entry, Outcome};
 
 /// Plays the script of the input, where the words are the single word `run`.
 ///
@@ -20,8 +30,36 @@ pub fn command<S: Store, I: Source, O: Sink>(
     input: &mut I,
     output: &mut O,
     store: S,
-) -> Done<S> {
-    let mut session = Session::new(alloc, store);
+) -> Done<S>
+    ensures status { IfSome result.fault (λ fault. result.status ≡ status_of fault) }
+    ensures ended { IfNone result.fault (result.status ≡ (if list_any has_aborted result.runs.items then 1 else 0)) }
+
+    // Status 2 comes exactly where the words aren't in the grammar, unless the usage text can't be
+    // made or written.
+    ensures words { IsTrue (is_grammar (map string_bytes words.now)) → result.fault ≢ Some Fault.Words }
+    ensures usage { is_grammar (map string_bytes words.now) ≡ false →
+        (result.status ≡ 2) ⊎ (result.status ≡ 7) ⊎ (result.status ≡ 8) }
+
+    // Over a source and a store that tell, the store empty as the call begins: 0 and 1 say that each
+    // line was read and done, and 3 that the line it names is the first that is refused.
+    ensures played { IsTrue I.tells → IsTrue S.tells → S.content store ≡ empty → IfNone result.fault
+        (IsPlayed (I.rest input.old) (progress empty [] false)) }
+    ensures line { IsTrue I.tells → IsTrue S.tells → S.content store ≡ empty → IfSome result.fault
+        (λ fault. IsOfLine fault → Refuses (I.rest input.old) (progress empty [] false) fault) }
+
+    // 5, 6 and 7 come only where the store, the input or the output counted a fault in this call.
+    ensures store { result.fault ≡ Some Fault.Store → Rose (S.faults store) (S.faults result.store) }
+    ensures input { result.fault ≡ Some Fault.Input → Rose (I.faults input.old) (I.faults input.new) }
+    ensures output { result.fault ≡ Some Fault.Output → Rose (O.faults output.old) (O.faults output.new) }
+    ensures calls { CallsGoOn S.tells S.content S.place S.calls S.faults store result.store }
+{
+    let mut session = Session {
+        store,
+        runs: Vec::new(alloc),
+        batch: Batch::new(alloc),
+        begun: false,
+        was_empty: true,
+    };
     let played = if is_run(words) {
         play(alloc, &mut session, input, output)
     } else {
@@ -36,7 +74,7 @@ pub fn command<S: Store, I: Source, O: Sink>(
     } = session;
     match played {
         Ok(()) => Done {
-            status: finished_status(&runs),
+            status: finished_status(runs.as_slice()),
             fault: None,
             store,
             runs,
@@ -54,7 +92,9 @@ pub fn command<S: Store, I: Source, O: Sink>(
 }
 
 /// The words are in the grammar of this stage: the one word `run`.
-fn is_run(words: &[String]) -> bool {
+fn is_run(words: &[String]) -> bool
+    ensures { result ≡ is_grammar (map string_bytes words.now) }
+{
     match words {
         [word] => word.as_str() == "run",
         _ => false,
@@ -62,15 +102,26 @@ fn is_run(words: &[String]) -> bool {
 }
 
 /// 1 where some transaction was aborted, else 0.
-fn finished_status(runs: &[Run]) -> u8 {
-    if runs.iter().any(has_aborted) { 1 } else { 0 }
+fn finished_status(runs: &[Run]) -> u8
+    ensures { result ≡ (if list_any has_aborted runs.now then 1 else 0) }
+{
+    for run in runs {
+        if has_aborted(run.order.as_slice()) {
+            return 1;
+        }
+    }
+    0
 }
 
-fn has_aborted(run: &Run) -> bool {
-    run.order
-        .as_slice()
-        .iter()
-        .any(|entry| entry.outcome == Outcome::Aborted)
+fn has_aborted(order: &[Entry]) -> bool
+    ensures { result ≡ list_any is_aborted order.now }
+{
+    for entry in order {
+        if matches!(entry.outcome, Outcome::Aborted) {
+            return true;
+        }
+    }
+    false
 }
 
 /// Plays the input line by line, to its end.
@@ -79,8 +130,20 @@ fn play<S: Store, I: Source, O: Sink>(
     session: &mut Session<S>,
     input: &mut I,
     output: &mut O,
-) -> Result<(), Fault> {
-    session.open(alloc)?;
+) -> Result<(), Fault>
+    ensures played { IsTrue I.tells → IsTrue S.tells → S.content session.old.store ≡ empty → OnOk result
+        (IsPlayed (I.rest input.old) (progress (S.content session.old.store) session.old.batch session.old.begun)) }
+    ensures line { IsTrue I.tells → IsTrue S.tells → S.content session.old.store ≡ empty → IfErr result
+        (λ fault. IsOfLine fault → Refuses (I.rest input.old)
+            (progress (S.content session.old.store) session.old.batch session.old.begun) fault) }
+    ensures words { IfErr result (λ fault. fault ≢ Fault.Words) }
+    ensures store { IsErrOf result Fault.Store → Rose (S.faults session.old.store) (S.faults session.new.store) }
+    ensures input { IsErrOf result Fault.Input → Rose (I.faults input.old) (I.faults input.new) }
+    ensures output { IsErrOf result Fault.Output → Rose (O.faults output.old) (O.faults output.new) }
+    ensures calls { CallsGoOn S.tells S.content S.place S.calls S.faults session.old.store session.new.store }
+    ensures later { O.faults output.old ≤ O.faults output.new }
+{
+    session.was_empty = is_empty(alloc, &mut session.store)?;
     let mut lines = Lines::new();
     for number in 1..u64::MAX {
         match lines.next(alloc, input) {
@@ -93,6 +156,21 @@ fn play<S: Store, I: Source, O: Sink>(
         }
     }
     unreachable!()
+}
+
+/// Whether the store has no cell.
+fn is_empty<S: Store>(alloc: Global, store: &mut S) -> Result<bool, Fault>
+    ensures empty { IsTrue S.tells → S.content store.old ≡ empty → IfOk result (λ answer. answer ≡ true) }
+    ensures same { IsTrue S.tells → S.content store.new ≡ S.content store.old }
+    ensures calls { CallsGoOn S.tells S.content S.place S.calls S.faults store.old store.new }
+    ensures fault { IsErrOf result Fault.Store → Rose (S.faults store.old) (S.faults store.new) }
+    ensures kind { IfErr result (λ fault. (fault ≡ Fault.Store) ⊎ (fault ≡ Fault.OutOfMemory)) }
+{
+    match store.next(alloc, None) {
+        Ok(first) => Ok(first.is_none()),
+        Err(StoreError::Failed) => Err(Fault::Store),
+        Err(StoreError::OutOfMemory) => Err(Fault::OutOfMemory),
+    }
 }
 
 /// Does what a line states, and writes what that prints.

@@ -1,5 +1,9 @@
 //! Why a call, or a step of it, was refused.
 
+ghost use Rattle.std.specs.Prelude.{◌≡◌, ◌⊎◌};
+ghost use Rattle.txn_cli.specs.Faulting.{status_of, fault_of_step};
+ghost use Rattle.txn_cli.specs.Refusals.{IsOfRun};
+
 use doc_value::Text;
 use std::alloc::{AllocError, Global};
 use store_trait::{Name, StoreError};
@@ -67,7 +71,9 @@ pub enum Fault {
 
 impl Fault {
     /// The status that a call ends with.
-    pub fn status(&self) -> u8 {
+    pub fn status(&self) -> u8
+        ensures { result ≡ status_of self.now }
+    {
         match self {
             Fault::Words => 2,
             Fault::Line { .. } => 3,
@@ -107,26 +113,26 @@ impl From<StoreError> for Fault {
     }
 }
 
-impl From<StepError> for Fault {
-    ghost use Rattle.std.specs.Prelude.{◌≡◌};
-    ghost use Rattle.txn_cli.specs.Faulting.{fault_of_step};
-
-    ghost from_gives = { λ error fault. fault ≡ fault_of_step error };
-
-    fn from(error: StepError) -> Fault {
-        match error {
-            StepError::StoreFault => Fault::Store,
-            StepError::OutOfMemory => Fault::OutOfMemory,
-            StepError::NoncesSpent => Fault::Spent(StepError::NoncesSpent),
-            StepError::RevnoSpent { key } => Fault::Spent(StepError::RevnoSpent { key }),
-            StepError::Lost { token } => Fault::Broken(StepError::Lost { token }),
-            StepError::Clash { id, at } => Fault::Broken(StepError::Clash { id, at }),
-        }
+/// How the refusal of a step ends the call.
+pub fn fault_of(error: StepError) -> Fault
+    ensures exact { result ≡ fault_of_step error }
+    ensures kind { IsOfRun result }
+    ensures store { result ≡ Fault.Store → error ≡ StepError.StoreFault }
+{
+    match error {
+        StepError::StoreFault => Fault::Store,
+        StepError::OutOfMemory => Fault::OutOfMemory,
+        StepError::NoncesSpent => Fault::Spent(StepError::NoncesSpent),
+        StepError::RevnoSpent { key } => Fault::Spent(StepError::RevnoSpent { key }),
+        StepError::Lost { token } => Fault::Broken(StepError::Lost { token }),
+        StepError::Clash { id, at } => Fault::Broken(StepError::Clash { id, at }),
     }
 }
 
 /// The refusal of a line, by one of the texts of refusals.
-pub fn refused(alloc: Global, line: u64, text: &str) -> Fault {
+pub fn refused(alloc: Global, line: u64, text: &str) -> Fault
+    ensures { (result ≡ Fault.Line line text.now) ⊎ (result ≡ Fault.OutOfMemory) }
+{
     match Text::from_str(alloc, text) {
         Ok(text) => Fault::Line { line, text },
         Err(_) => Fault::OutOfMemory,

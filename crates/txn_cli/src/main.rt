@@ -8,6 +8,7 @@ mod done;
 mod fault;
 mod go;
 mod io;
+mod places;
 mod print;
 mod session;
 mod settle;

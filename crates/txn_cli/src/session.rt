@@ -1,19 +1,25 @@
 //! A script as it is played: what each statement does to the store, and what it prints.
 
+ghost use Rattle.std.specs.Prelude.{◌≡◌, ◌≢◌, false, IsTrue, OnOk, IfErr, IsErrOf};
+ghost use Rattle.store_trait.specs.Calls.{CallsGoOn, Rose};
+ghost use Rattle.txn_cli.specs.Play.{progress, is_allowed, Does, RunsBatch, RunsWaiting};
+ghost use Rattle.txn_cli.specs.Refusals.{IsOfLine, IsOfRun, not_built};
+ghost use Rattle.txn_cli.specs.declared.statement.Statement.TheVariants as statement;
+
 use crate::batch::Batch;
 use crate::documents::list_documents;
 use crate::done::Run;
-use crate::fault::{Fault, refused};
+use crate::fault::{Fault, fault_of, refused};
 use crate::go::run_batch;
+use crate::places::{may_wait, place_document};
 use crate::print::push_document;
 use crate::statement::Statement;
-use sqlite_items::Items;
-use std::alloc::Global;
 use doc_value::Value;
-use store_trait::{Cell, DocCell, Edit, Name, Store};
+use std::alloc::Global;
+use store_trait::Store;
 use txn_record::{Key, Ops, TxnId};
 
-/// How far a script has come. The store is empty as the session begins, where `was_empty` says so.
+/// How far a script has come. `was_empty` says whether the store had no cell as the call began.
 pub struct Session<S> {
     pub store: S,
     pub runs: Vec<Run>,
@@ -24,32 +30,25 @@ pub struct Session<S> {
 }
 
 impl<S: Store> Session<S> {
-    pub fn new(alloc: Global, store: S) -> Session<S> {
-        Session {
-            store,
-            runs: Vec::new(alloc),
-            batch: Batch::new(alloc),
-            begun: false,
-            was_empty: true,
-        }
-    }
-
-    /// Looks for a first cell of the store.
-    pub fn open(&mut self, alloc: Global) -> Result<(), Fault> {
-        let first = self.store.next(alloc, None)?;
-        self.was_empty = first.is_none();
-        Ok(())
-    }
-
     /// Does a statement, and answers what it prints.
     pub fn perform(
         &mut self,
         alloc: Global,
         line: u64,
         statement: Statement,
-    ) -> Result<Vec<u8>, Fault> {
+    ) -> Result<Vec<u8>, Fault>
+        ensures done { IsTrue S.tells → IsTrue self.old.was_empty → OnOk result
+            (Does statement (progress (S.content self.old.store) self.old.batch self.old.begun)
+                (progress (S.content self.new.store) self.new.batch self.new.begun)) }
+        ensures refused { IsTrue S.tells → IsTrue self.old.was_empty → IfErr result (λ fault. IsOfLine fault →
+            is_allowed (progress (S.content self.old.store) self.old.batch self.old.begun) statement ≡ false) }
+        ensures text { IfErr result (λ fault. IsOfLine fault → fault ≡ not_built line) }
+        ensures kept { self.new.was_empty ≡ self.old.was_empty }
+        ensures calls { CallsGoOn S.tells S.content S.place S.calls S.faults self.old.store self.new.store }
+        ensures fault { IsErrOf result Fault.Store → Rose (S.faults self.old.store) (S.faults self.new.store) }
+    {
         match statement {
-            Statement::Doc { key, body } => self.place_doc(alloc, line, key, body),
+            Statement::Doc { key, body } => self.place(alloc, line, key, body),
             Statement::Submit { id, ops } => self.submit(alloc, line, id, ops),
             Statement::Go => self.go(alloc, line),
             Statement::Show => self.show(alloc, line),
@@ -57,7 +56,16 @@ impl<S: Store> Session<S> {
     }
 
     /// Runs the batch, where one waits, as the end of the input does.
-    pub fn finish(&mut self, alloc: Global, line: u64) -> Result<Vec<u8>, Fault> {
+    pub fn finish(&mut self, alloc: Global, line: u64) -> Result<Vec<u8>, Fault>
+        ensures done { IsTrue S.tells → IsTrue self.old.was_empty → OnOk result
+            (RunsWaiting self.old.batch (progress (S.content self.old.store) self.old.batch self.old.begun)
+                (progress (S.content self.new.store) self.new.batch self.new.begun)) }
+        ensures never { IsTrue self.old.was_empty → IfErr result IsOfRun }
+        ensures text { IfErr result (λ fault. IsOfLine fault → fault ≡ not_built line) }
+        ensures kept { self.new.was_empty ≡ self.old.was_empty }
+        ensures calls { CallsGoOn S.tells S.content S.place S.calls S.faults self.old.store self.new.store }
+        ensures fault { IsErrOf result Fault.Store → Rose (S.faults self.old.store) (S.faults self.new.store) }
+    {
         if self.batch.is_empty() {
             Ok(Vec::new(alloc))
         } else {
@@ -65,43 +73,64 @@ impl<S: Store> Session<S> {
         }
     }
 
-    fn place_doc(&mut self, alloc: Global, line: u64, key: Key, body: Value) -> Result<Vec<u8>, Fault> {
+    fn place(&mut self, alloc: Global, line: u64, key: Key, body: Value) -> Result<Vec<u8>, Fault>
+        ensures done { IsTrue S.tells → OnOk result
+            (Does (statement.Doc key body) (progress (S.content self.old.store) self.old.batch self.old.begun)
+                (progress (S.content self.new.store) self.new.batch self.new.begun)) }
+        ensures refused { IsTrue S.tells → IfErr result (λ fault. IsOfLine fault →
+            is_allowed (progress (S.content self.old.store) self.old.batch self.old.begun) (statement.Doc key body) ≡ false) }
+        ensures text { IfErr result (λ fault. IsOfLine fault → fault ≡ not_built line) }
+        ensures kept { self.new.was_empty ≡ self.old.was_empty }
+        ensures calls { CallsGoOn S.tells S.content S.place S.calls S.faults self.old.store self.new.store }
+        ensures fault { IsErrOf result Fault.Store → Rose (S.faults self.old.store) (S.faults self.new.store) }
+    {
         if self.begun {
-            return Err(not_built(alloc, line));
+            return Err(unbuilt(alloc, line));
         }
-        let cell = Cell::Doc(DocCell {
-            body,
-            revno: 0,
-            queue: Items::new(alloc),
-            remove: None,
-        });
-        let edited = self.store.edit(alloc, &Name::Doc(key), &Edit::Place { cell })?;
-        if edited.hit {
+        if place_document(alloc, &mut self.store, key, body)? {
             Ok(Vec::new(alloc))
         } else {
-            Err(not_built(alloc, line))
+            Err(unbuilt(alloc, line))
         }
     }
 
-    fn submit(&mut self, alloc: Global, line: u64, id: TxnId, ops: Ops) -> Result<Vec<u8>, Fault> {
-        if self.batch.is_full() || self.batch.has(id) {
-            return Err(not_built(alloc, line));
+    fn submit(&mut self, alloc: Global, line: u64, id: TxnId, ops: Ops) -> Result<Vec<u8>, Fault>
+        ensures done { IsTrue S.tells → OnOk result
+            (Does (statement.Submit id ops) (progress (S.content self.old.store) self.old.batch self.old.begun)
+                (progress (S.content self.new.store) self.new.batch self.new.begun)) }
+        ensures refused { IsTrue S.tells → IfErr result (λ fault. IsOfLine fault →
+            is_allowed (progress (S.content self.old.store) self.old.batch self.old.begun) (statement.Submit id ops) ≡ false) }
+        ensures text { IfErr result (λ fault. IsOfLine fault → fault ≡ not_built line) }
+        ensures kept { self.new.was_empty ≡ self.old.was_empty }
+        ensures calls { CallsGoOn S.tells S.content S.place S.calls S.faults self.old.store self.new.store }
+        ensures fault { IsErrOf result Fault.Store → Rose (S.faults self.old.store) (S.faults self.new.store) }
+    {
+        if self.batch.is_full() {
+            return Err(unbuilt(alloc, line));
         }
-        if self.store.read(alloc, &Name::Record(id))?.is_some() {
-            return Err(not_built(alloc, line));
+        if self.batch.has(id) {
+            return Err(unbuilt(alloc, line));
         }
-        let name = Name::Doc(ops.only().key.copy(alloc)?);
-        if self.store.read(alloc, &name)?.is_none() {
-            return Err(not_built(alloc, line));
+        if !may_wait(alloc, &mut self.store, id, &ops)? {
+            return Err(unbuilt(alloc, line));
         }
         self.batch.push(id, ops)?;
         self.begun = true;
         Ok(Vec::new(alloc))
     }
 
-    fn go(&mut self, alloc: Global, line: u64) -> Result<Vec<u8>, Fault> {
+    fn go(&mut self, alloc: Global, line: u64) -> Result<Vec<u8>, Fault>
+        ensures done { OnOk result
+            (RunsBatch (progress (S.content self.old.store) self.old.batch self.old.begun)
+                (progress (S.content self.new.store) self.new.batch self.new.begun)) }
+        ensures never { IsTrue self.old.was_empty → IfErr result IsOfRun }
+        ensures text { IfErr result (λ fault. IsOfLine fault → fault ≡ not_built line) }
+        ensures kept { self.new.was_empty ≡ self.old.was_empty }
+        ensures calls { CallsGoOn S.tells S.content S.place S.calls S.faults self.old.store self.new.store }
+        ensures fault { IsErrOf result Fault.Store → Rose (S.faults self.old.store) (S.faults self.new.store) }
+    {
         if !self.was_empty {
-            return Err(not_built(alloc, line));
+            return Err(unbuilt(alloc, line));
         }
         let lines = run_batch(alloc, &mut self.store, &mut self.runs, self.batch.as_slice())?;
         self.batch.clear();
@@ -109,21 +138,51 @@ impl<S: Store> Session<S> {
         Ok(lines)
     }
 
-    fn show(&mut self, alloc: Global, line: u64) -> Result<Vec<u8>, Fault> {
+    fn show(&mut self, alloc: Global, line: u64) -> Result<Vec<u8>, Fault>
+        ensures done { IsTrue S.tells → IsTrue self.old.was_empty → OnOk result
+            (Does statement.Show (progress (S.content self.old.store) self.old.batch self.old.begun)
+                (progress (S.content self.new.store) self.new.batch self.new.begun)) }
+        ensures never { IsTrue self.old.was_empty → IfErr result IsOfRun }
+        ensures text { IfErr result (λ fault. IsOfLine fault → fault ≡ not_built line) }
+        ensures kept { self.new.was_empty ≡ self.old.was_empty }
+        ensures calls { CallsGoOn S.tells S.content S.place S.calls S.faults self.old.store self.new.store }
+        ensures fault { IsErrOf result Fault.Store → Rose (S.faults self.old.store) (S.faults self.new.store) }
+    {
         if !self.was_empty {
-            return Err(not_built(alloc, line));
+            return Err(unbuilt(alloc, line));
         }
         let mut lines = self.finish(alloc, line)?;
         self.begun = true;
-        let docs = list_documents(alloc, &mut self.store)?;
-        for doc in docs.as_slice() {
-            push_document(&mut lines, doc)?;
-        }
+        push_documents(alloc, &mut self.store, &mut lines)?;
         Ok(lines)
     }
 }
 
+/// Prints the documents of the store, in the order of their keys.
+fn push_documents<S: Store>(
+    alloc: Global,
+    store: &mut S,
+    lines: &mut Vec<u8>,
+) -> Result<(), Fault>
+    ensures same { IsTrue S.tells → S.content store.new ≡ S.content store.old }
+    ensures kind { IfErr result IsOfRun }
+    ensures calls { CallsGoOn S.tells S.content S.place S.calls S.faults store.old store.new }
+    ensures fault { IsErrOf result Fault.Store → Rose (S.faults store.old) (S.faults store.new) }
+{
+    let docs = match list_documents(alloc, store) {
+        Ok(docs) => docs,
+        Err(error) => return Err(fault_of(error)),
+    };
+    for doc in docs.as_slice() {
+        push_document(lines, doc)?;
+    }
+    Ok(())
+}
+
 /// The refusal of a line whose form isn't built.
-fn not_built(alloc: Global, line: u64) -> Fault {
+fn unbuilt(alloc: Global, line: u64) -> Fault
+    ensures text { IsOfLine result → result ≡ not_built line }
+    ensures other { result ≢ Fault.Store }
+{
     refused(alloc, line, "not built yet")
 }

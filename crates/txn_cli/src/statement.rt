@@ -1,6 +1,7 @@
 ghost use Rattle.std.specs.Prelude.{◌≡◌, ◌≢◌, IfOk, Err};
+ghost use Rattle.std.specs.List.{list_all};
 ghost use Rattle.doc_value.specs.declared.value.Value.{out-Value};
-ghost use Rattle.txn_cli.specs.Statements.{is_skipped, line_in, statement_of_value, statement_of_pair, statement_of_field, submission_in, doc_in, go_in, show_in};
+ghost use Rattle.txn_cli.specs.Statements.{is_skipped, is_blank_byte, line_in, statement_of_value, statement_of_pair, statement_of_field, submission_in, doc_in, go_in, show_in};
 ghost use Rattle.txn_cli.specs.declared.statement.ScriptFault.TheVariants.{OutOfMemory as NoMemory};
 
 use doc_value::{BodyFault, Field, OutOfMemory, Value, ValueFault, read_body, read_value};
@@ -53,10 +54,25 @@ pub fn read_line(alloc: Global, bytes: &[u8]) -> Result<Option<Statement>, Scrip
 fn is_skipped(bytes: &[u8]) -> bool
     ensures { result ≡ is_skipped bytes.now }
 {
-    bytes.starts_with(b"#")
-        || bytes
-            .iter()
-            .all(|byte| *byte == b' ' || *byte == b'\t' || *byte == b'\r')
+    bytes.starts_with(b"#") || is_blank(bytes)
+}
+
+fn is_blank(bytes: &[u8]) -> bool
+    ensures { result ≡ list_all is_blank_byte bytes.now }
+{
+    for byte in bytes {
+        if !is_blank_byte(*byte) {
+            return false;
+        }
+    }
+    true
+}
+
+/// A blank, a tab or a carriage return.
+fn is_blank_byte(byte: u8) -> bool
+    ensures { result ≡ is_blank_byte byte }
+{
+    byte == b' ' || byte == b'\t' || byte == b'\r'
 }
 
 fn statement_of_value(alloc: Global, value: &Value) -> Result<Option<Statement>, OutOfMemory>

@@ -1,0 +1,21 @@
+use Rattle.std.specs.Prelude.{ℕ, codes}
+use Rattle.txn_cli.specs.declared.fault.Fault.{Fault}
+use Rattle.txn_cli.specs.declared.fault.Fault.TheVariants as fault
+
+-- a line of the script was refused
+abbrev pub IsOfLine : Fault → Type 0
+IsOfLine (fault.Line _ _) = Unit {0}
+IsOfLine _ = ⊥
+
+-- the refusal of a line whose form isn't built
+abbrev pub not_built : ℕ → Fault
+not_built line = fault.Line line (codes "not built yet")
+
+-- the refusals that running a batch may end with
+abbrev pub IsOfRun : Fault → Type 0
+IsOfRun fault.Store = Unit {0}
+IsOfRun fault.OutOfMemory = Unit {0}
+IsOfRun (fault.Spent _) = Unit {0}
+IsOfRun (fault.Broken _) = Unit {0}
+IsOfRun (fault.Repeated _) = Unit {0}
+IsOfRun _ = ⊥

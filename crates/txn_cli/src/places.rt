@@ -1,0 +1,80 @@
+//! What `doc` and `txn` lines ask of the store.
+
+ghost use Rattle.std.specs.Prelude.{◌≡◌, ◌&&◌, not, IsTrue, IfOk, IsErrOf, OnErr, Err, is_some, ◌⊎◌};
+ghost use Rattle.std.specs.Bool.{OnTrue};
+ghost use Rattle.std.specs.FinMap.{get, insert};
+ghost use Rattle.std.specs.List.{list_all};
+ghost use Rattle.store_trait.specs.Calls.{CallsGoOn, Rose};
+ghost use Rattle.store_trait.specs.declared.name.Name.TheVariants.{Doc};
+ghost use Rattle.txn_cli.specs.Play.{has_document, has_record, placed_doc};
+
+use crate::fault::Fault;
+use doc_value::Value;
+use sqlite_items::Items;
+use std::alloc::Global;
+use store_trait::{Cell, DocCell, Edit, Name, Store, StoreError};
+use txn_record::{Key, Ops, TxnId};
+
+/// Places a document at revision number 0, where its key has none; answers whether it did.
+pub fn place_document<S: Store>(
+    alloc: Global,
+    store: &mut S,
+    key: Key,
+    body: Value,
+) -> Result<bool, Fault>
+    ensures absent { IsTrue S.tells → IfOk result (λ placed. placed ≡ not (has_document (S.content store.old) key)) }
+    ensures made { IsTrue S.tells → IfOk result
+        (λ placed. OnTrue placed (S.content store.new ≡ insert (S.content store.old) (Doc key) (placed_doc body))) }
+    ensures calls { CallsGoOn S.tells S.content S.place S.calls S.faults store.old store.new }
+    ensures fault { IsErrOf result Fault.Store → Rose (S.faults store.old) (S.faults store.new) }
+    ensures other { OnErr result ((result ≡ Err Fault.Store) ⊎ (result ≡ Err Fault.OutOfMemory)) }
+{
+    let name = Name::Doc(key);
+    let cell = Cell::Doc(DocCell {
+        body,
+        revno: 0,
+        queue: Items::new(alloc),
+        remove: None,
+    });
+    match store.edit(alloc, &name, &Edit::Place { cell }) {
+        Ok(edited) => Ok(edited.hit),
+        Err(StoreError::Failed) => Err(Fault::Store),
+        Err(StoreError::OutOfMemory) => Err(Fault::OutOfMemory),
+    }
+}
+
+/// Whether a transaction may wait: its id has no record, and the documents of its keys are there.
+pub fn may_wait<S: Store>(
+    alloc: Global,
+    store: &mut S,
+    id: TxnId,
+    ops: &Ops,
+) -> Result<bool, Fault>
+    ensures answer { IsTrue S.tells → IfOk result (λ may. may ≡ (not (has_record (S.content store.old) id)
+        && list_all (λ op. has_document (S.content store.old) op.key) ops.now)) }
+    ensures same { IsTrue S.tells → S.content store.new ≡ S.content store.old }
+    ensures calls { CallsGoOn S.tells S.content S.place S.calls S.faults store.old store.new }
+    ensures fault { IsErrOf result Fault.Store → Rose (S.faults store.old) (S.faults store.new) }
+    ensures other { OnErr result ((result ≡ Err Fault.Store) ⊎ (result ≡ Err Fault.OutOfMemory)) }
+{
+    let name = Name::Doc(ops.only().key.copy(alloc)?);
+    if is_there(alloc, store, &Name::Record(id))? {
+        return Ok(false);
+    }
+    is_there(alloc, store, &name)
+}
+
+/// Whether a cell stands under a name.
+fn is_there<S: Store>(alloc: Global, store: &mut S, name: &Name) -> Result<bool, Fault>
+    ensures answer { IsTrue S.tells → IfOk result (λ there. there ≡ is_some (get (S.content store.old) name.now)) }
+    ensures same { IsTrue S.tells → S.content store.new ≡ S.content store.old }
+    ensures calls { CallsGoOn S.tells S.content S.place S.calls S.faults store.old store.new }
+    ensures fault { IsErrOf result Fault.Store → Rose (S.faults store.old) (S.faults store.new) }
+    ensures other { OnErr result ((result ≡ Err Fault.Store) ⊎ (result ≡ Err Fault.OutOfMemory)) }
+{
+    match store.read(alloc, name) {
+        Ok(found) => Ok(found.is_some()),
+        Err(StoreError::Failed) => Err(Fault::Store),
+        Err(StoreError::OutOfMemory) => Err(Fault::OutOfMemory),
+    }
+}
