@@ -1,4 +1,9 @@
 //! Values, bodies, paths and their JSON text.
+//!
+//! What is read is exactly the value of the text, or the first fault by the format's order; what is
+//! printed is exactly the value's compact text, which reads back as the value (`reads_back`). A body, a
+//! path and what a path leads to are exactly those of the definitions in `specs/`. Copies are equal, and
+//! equality and order take no memory.
 #![tactic(auto)]
 
 mod body;
