@@ -24,7 +24,7 @@ pub use body::read_body;
 pub use doc_id::DocId;
 pub use fault::{BodyFault, PathFault, ValueFault};
 pub use laws::reads_back;
-pub use lookup::get;
+pub use lookup::{get, get_by_text};
 pub use path::Path;
 pub use print::{print_value, push_text, push_value};
 pub use read::read_value;
