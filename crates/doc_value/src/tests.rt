@@ -3,7 +3,6 @@ use crate::{
     print_value, push_text, push_value, read_body, read_value,
 };
 use std::alloc::Global;
-use std::cmp::Ordering;
 use std::test::Fail;
 
 /// JSON texts, and their values printed or their faults.
