@@ -2,6 +2,7 @@ pub mod Faulting
 pub mod Faults
 pub mod Gathering
 pub mod Lines
+pub mod Listing
 pub mod Memory
 pub mod Play
 pub mod Pour

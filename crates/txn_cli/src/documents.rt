@@ -8,7 +8,7 @@ ghost use Rattle.store_trait.specs.declared.name.Name.TheVariants as name;
 use crate::fault::StepError;
 use std::alloc::Global;
 use store_trait::{Cell, Name, Named, Store, StoreError};
-use txn_record::{Doc, Docs, TxnId};
+use txn_record::{Doc, Docs, TxnId, documents_rise};
 
 /// The documents, in the order of their keys. Records come before them in the order of names, and are
 /// passed over by the first call.
@@ -17,6 +17,7 @@ pub fn list_documents<S: Store>(alloc: Global, store: &mut S) -> Result<Docs, St
     ensures same { IsTrue S.tells → S.content store.new ≡ S.content store.old }
     ensures fault { IsErrOf result StepError.StoreFault → Rose (S.faults store.old) (S.faults store.new) }
 {
+    documents_rise();
     let mut docs = Docs::new(alloc);
     let mut after = Name::Record(TxnId([255; 12]));
     for _ in 0..u64::MAX {
