@@ -1,31 +1,15 @@
 -- A body is a body again, under each id, and readable where the value was that it was read from.
-use Rattle.std.proofs.Common.{◌≡◌, suc, ◌≤◌, List, false, map, nat_lt, None, Ok, sym, ap, ◌∙◌, arith, rules}
+use Rattle.std.proofs.Common.{◌≡◌, ◌≤◌, List, false, nat_lt, None, Ok, sym, ap, ◌∙◌, arith, rules}
 use Rattle.std.proofs.lemmas.Bool.Decides.{nat_tests}
 use Rattle.doc_value.specs.declared.doc_id.DocId.{DocId}
 use Rattle.doc_value.specs.declared.value.Named.{Named}
 use Rattle.doc_value.specs.declared.value.Value.{Value, Object, the_lemmas}
 use Rattle.doc_value.specs.declared.value.Value.TheOpen.{Value-F}
 use Rattle.doc_value.specs.Bodies.{first_refused, without_id, body_from, body_in, unless_refused}
-use Rattle.doc_value.specs.Nesting.{nesting, deepest_field}
-use Rattle.doc_value.specs.Order.{is_ordered, fields_ordered}
-use Rattle.doc_value.specs.Readable.{IsReadable, holds_bad_name, some_field_bad}
-use Rattle.doc_value.specs.Sound.{is_sound, fields_sound}
+use Rattle.doc_value.specs.Nesting.{nesting}
+use Rattle.doc_value.specs.Readable.{IsReadable}
+use Rattle.doc_value.proofs.Levels.{nesting-Object, names-Object, ordered-Object, sound-Object}
 use Rattle.doc_value.proofs.BodyFields.{without_id-again, first_refused-without_id, nesting-without_id, names-without_id, sound-without_id, order-without_id}
-
-abbrev judged : {A : Type 0} → (Value → A) → Named Value → Named A
-judged f field = record { name = field.name; value = f field.value }
-
-nesting-Object : (fs : List (Named Value)) → nesting (Object fs) ≡ suc (deepest_field (map (judged nesting) fs))
-nesting-Object fs = search (rules, the_lemmas)
-
-names-Object : (fs : List (Named Value)) → holds_bad_name (Object fs) ≡ some_field_bad (map (judged holds_bad_name) fs)
-names-Object fs = search (rules, the_lemmas)
-
-ordered-Object : (fs : List (Named Value)) → is_ordered (Object fs) ≡ fields_ordered (map (judged is_ordered) fs)
-ordered-Object fs = search (rules, the_lemmas)
-
-sound-Object : (fs : List (Named Value)) → is_sound (Object fs) ≡ fields_sound (map (judged is_sound) fs)
-sound-Object fs = search (rules, the_lemmas)
 
 body_in-Object : (id : DocId) (fs : List (Named Value)) → body_in id (Object fs) ≡ body_from id (Object fs) (Value-F.Object fs)
 body_in-Object id fs = search (rules, the_lemmas)

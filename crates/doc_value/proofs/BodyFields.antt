@@ -8,6 +8,7 @@ use Rattle.std.proofs.lemmas.Cmp.{nat_list_cmp_total}
 use Rattle.doc_value.specs.declared.doc_id.DocId.{DocId}
 use Rattle.doc_value.specs.declared.value.Named.{Named}
 use Rattle.doc_value.specs.declared.value.Value.{Value}
+use Rattle.doc_value.specs.Fields.{judged}
 use Rattle.doc_value.specs.Bodies.{refused_at_top, first_refused, without_id}
 use Rattle.doc_value.specs.JsonFaults.{is_bad_name}
 use Rattle.doc_value.specs.Names.{is_id_name}
@@ -16,9 +17,6 @@ use Rattle.doc_value.specs.Order.{precedes, is_ordered, fields_ordered}
 use Rattle.doc_value.specs.Readable.{holds_bad_name, some_field_bad}
 use Rattle.doc_value.specs.Sound.{is_sound, fields_sound}
 use Rattle.std.specs.Str.{is_utf8}
-
-abbrev judged : {A : Type 0} → (Value → A) → Named Value → Named A
-judged f field = record { name = field.name; value = f field.value }
 
 -- ---- once left out, nothing more is
 

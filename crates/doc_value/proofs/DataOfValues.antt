@@ -11,12 +11,10 @@ use Rattle.doc_value.specs.declared.value.Value.TheOpen.{Value-F}
 use Rattle.doc_value.specs.declared.value.Value.TheViews.{roll-Value}
 use Rattle.doc_value.specs.declared.value.Value.TheFolds.{fold-Value, fold-roll-Value, ind-Value}
 use Rattle.doc_value.specs.declared.value.Value.TheVariants.{rolls-Null, rolls-Bool, rolls-Int, rolls-Text, rolls-List, rolls-Object}
+use Rattle.doc_value.specs.Fields.{judged}
 use Rattle.doc_value.specs.JsonValue.{value_of, values_of, fields_of}
 use Rattle.doc_value.specs.Sound.{fits_64_bits, all_sound, fields_sound, sound_step, is_sound}
 use Rattle.doc_value.proofs.PlainJson.{IsPlain, ItemsArePlain, MembersArePlain, IsPlainNumber, plain_number}
-
-abbrev renamed : {A B : Type 0} → (A → B) → Named A → Named B
-renamed f field = record { name = field.name; value = f field.value }
 
 abbrev pub members_in : List (Named Data) → Members
 members_in [] = no_members
@@ -51,8 +49,8 @@ items_told (t ∷ ts) h =
     let rest = items_told ts p.1 in
     (ap₂ (λ v vs. v ∷ vs) own.0 rest.0, (own.1, rest.1))
 
-fields_told : (ts : List (Named Told)) → fields_sound (map (renamed is_sound) (map (renamed plain) ts)) ≡ true
-    → (fields_of (members_in (map (renamed data_of) (map (renamed plain) ts))) ≡ map (renamed plain) ts) × MembersArePlain (members_in (map (renamed data_of) (map (renamed plain) ts)))
+fields_told : (ts : List (Named Told)) → fields_sound (map (judged is_sound) (map (judged plain) ts)) ≡ true
+    → (fields_of (members_in (map (judged data_of) (map (judged plain) ts))) ≡ map (judged plain) ts) × MembersArePlain (members_in (map (judged data_of) (map (judged plain) ts)))
 fields_told [] h = (refl, tt)
 fields_told (t ∷ ts) h =
     let p = and_parts _ _ h in

@@ -4,25 +4,17 @@ use Rattle.std.specs.Ordering.{is_lt}
 use Rattle.std.specs.Cmp.Lexicographic.{slice_cmp}
 use Rattle.std.proofs.lemmas.Bool.{and_from, and_parts}
 use Rattle.serde_json.specs.Data.{Data, null, boolean, number, string, array, object, Items, no_items, item, Members, no_members, member, depth, items_depth, members_depth}
-use Rattle.doc_value.specs.declared.value.Named.{Named}
-use Rattle.doc_value.specs.declared.value.Value.{Value, List as Items_of, Object, the_lemmas}
+use Rattle.doc_value.specs.declared.value.Value.{the_lemmas}
+use Rattle.doc_value.specs.Fields.{judged}
 use Rattle.doc_value.specs.JsonFaults.{is_bad_name, has_bad_name, some_item_has_bad_name, some_member_has_bad_name}
 use Rattle.doc_value.specs.JsonValue.{value_of, values_of, fields_of}
 use Rattle.doc_value.specs.Nesting.{nesting, deepest, deepest_field}
 use Rattle.doc_value.specs.Order.{precedes, is_ordered, all_ordered, fields_ordered}
 use Rattle.doc_value.specs.Readable.{holds_bad_name, some_bad, some_field_bad}
+use Rattle.doc_value.proofs.Levels.{nesting-List, nesting-Object, names-List, names-Object, ordered-List, ordered-Object}
 use Rattle.doc_value.proofs.JsonOrder.{InOrder, ItemsInOrder, MembersInOrder, IsBelow}
 
-abbrev judged : {A : Type 0} → (Value → A) → Named Value → Named A
-judged f field = record { name = field.name; value = f field.value }
-
 -- ---- nesting
-
-nesting-List : (vs : List Value) → nesting (Items_of vs) ≡ suc (deepest (map nesting vs))
-nesting-List vs = search (rules, the_lemmas)
-
-nesting-Object : (fs : List (Named Value)) → nesting (Object fs) ≡ suc (deepest_field (map (judged nesting) fs))
-nesting-Object fs = search (rules, the_lemmas)
 
 mutual
   pub nesting-value_of : (d : Data) → nesting (value_of d) ≡ depth d
@@ -43,20 +35,14 @@ mutual
 
 -- ---- refused names
 
-bad-List : (vs : List Value) → holds_bad_name (Items_of vs) ≡ some_bad (map holds_bad_name vs)
-bad-List vs = search (rules, the_lemmas)
-
-bad-Object : (fs : List (Named Value)) → holds_bad_name (Object fs) ≡ some_field_bad (map (judged holds_bad_name) fs)
-bad-Object fs = search (rules, the_lemmas)
-
 mutual
   pub bad-value_of : (d : Data) → holds_bad_name (value_of d) ≡ has_bad_name d
   bad-value_of null = search (rules, the_lemmas)
   bad-value_of (boolean b) = search (rules, the_lemmas)
   bad-value_of (number n) = search (rules, the_lemmas)
   bad-value_of (string s) = search (rules, the_lemmas)
-  bad-value_of (array ds) = bad-List (values_of ds) ∙ bad-values_of ds
-  bad-value_of (object ms) = bad-Object (fields_of ms) ∙ bad-fields_of ms
+  bad-value_of (array ds) = names-List (values_of ds) ∙ bad-values_of ds
+  bad-value_of (object ms) = names-Object (fields_of ms) ∙ bad-fields_of ms
 
   bad-values_of : (ds : Items) → some_bad (map holds_bad_name (values_of ds)) ≡ some_item_has_bad_name ds
   bad-values_of no_items = refl
@@ -67,12 +53,6 @@ mutual
   bad-fields_of (member k d ms) = ap₂ (λ (a b : Bool). is_bad_name k || a || b) (bad-value_of d) (bad-fields_of ms)
 
 -- ---- order
-
-ordered-List : (vs : List Value) → is_ordered (Items_of vs) ≡ all_ordered (map is_ordered vs)
-ordered-List vs = search (rules, the_lemmas)
-
-ordered-Object : (fs : List (Named Value)) → is_ordered (Object fs) ≡ fields_ordered (map (judged is_ordered) fs)
-ordered-Object fs = search (rules, the_lemmas)
 
 precedes-fields_of : (k : List ℕ) (ms : Members) → IsBelow k ms → precedes k (map (judged is_ordered) (fields_of ms)) ≡ true
 precedes-fields_of k no_members h = refl

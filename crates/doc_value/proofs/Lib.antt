@@ -1,4 +1,5 @@
 pub mod Utf8Reading
+pub mod Levels
 pub mod JsonOrder
 pub mod JsonLevels
 pub mod ReadValues

@@ -12,9 +12,10 @@ use Rattle.serde_json.specs.Find.{as_i64, of_integer}
 use Rattle.serde_json.specs.Written.{number_text, outline, items_outline, members_outline, comma_if, compact_text, items_text as json_items_text, members_text as json_members_text}
 use Rattle.doc_value.specs.declared.value.Named.{Named}
 use Rattle.doc_value.specs.declared.value.Value.{Value, Bool as Truth, Int, List as Items_of, Object, the_lemmas}
+use Rattle.doc_value.specs.Fields.{judged}
 use Rattle.doc_value.specs.JsonFaults.{is_whole, items_are_whole, members_are_whole}
 use Rattle.doc_value.specs.JsonValue.{value_of, values_of, fields_of}
-use Rattle.doc_value.specs.Printing.{compact, compact_field, items_text, fields_text}
+use Rattle.doc_value.specs.Printing.{compact, items_text, fields_text}
 use Rattle.doc_value.specs.Sound.{fits_64_bits}
 
 -- a whole number of 64 bits, as serde_json keeps it
@@ -129,7 +130,7 @@ mutual
 compact-List : (vs : List Value) → compact (Items_of vs) ≡ 91 ∷ items_text false (map compact vs)
 compact-List vs = search (rules, the_lemmas)
 
-compact-Object : (fs : List (Named Value)) → compact (Object fs) ≡ 123 ∷ fields_text false (map compact_field fs)
+compact-Object : (fs : List (Named Value)) → compact (Object fs) ≡ 123 ∷ fields_text false (map (judged compact) fs)
 compact-Object fs = search (rules, the_lemmas)
 
 compact-Int : (z : ℤ) → compact (Int z) ≡ signed_decimal z
@@ -152,6 +153,6 @@ mutual
   compact-values_of later no_items h = refl
   compact-values_of later (item d ds) h = ap₂ (λ (a b : List ℕ). comma_if later ++ (a ++ b)) (compact-value_of d h.0) (compact-values_of true ds h.1)
 
-  compact-fields_of : (later : Bool) (ms : Members) → MembersArePlain ms → fields_text later (map compact_field (fields_of ms)) ≡ json_members_text later ms
+  compact-fields_of : (later : Bool) (ms : Members) → MembersArePlain ms → fields_text later (map (judged compact) (fields_of ms)) ≡ json_members_text later ms
   compact-fields_of later no_members h = refl
   compact-fields_of later (member k d ms) h = ap₂ (λ (a b : List ℕ). comma_if later ++ (quoted k ++ 58 ∷ (a ++ b))) (compact-value_of d h.1) (compact-fields_of true ms h.2)

@@ -29,9 +29,6 @@ refused_step _ = None
 abbrev pub refused_inside : Value → Option (List ℕ)
 refused_inside = fold-Value (Option (List ℕ)) refused_step
 
-abbrev pub refused_in_field : Named Value → Named (Option (List ℕ))
-refused_in_field field = record { name = field.name; value = refused_inside field.value }
-
 -- ---- the top of a body
 
 -- A field `_id` is no fault where it is the document's id.

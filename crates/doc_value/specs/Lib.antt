@@ -1,3 +1,4 @@
+pub mod Fields
 pub mod JsonFaults
 pub mod JsonValue
 pub mod Reading

@@ -20,6 +20,3 @@ nesting_step _ = 0
 
 abbrev pub nesting : Value → ℕ
 nesting = fold-Value ℕ nesting_step
-
-abbrev pub field_nesting : Named Value → Named ℕ
-field_nesting field = record { name = field.name; value = nesting field.value }

@@ -29,6 +29,3 @@ compact_step (Value-F.Object fields) = 123 ∷ fields_text false fields
 
 abbrev pub compact : Value → List ℕ
 compact = fold-Value (List ℕ) compact_step
-
-abbrev pub compact_field : Named Value → Named (List ℕ)
-compact_field field = record { name = field.name; value = compact field.value }

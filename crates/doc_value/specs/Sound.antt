@@ -27,6 +27,3 @@ sound_step _ = true
 
 abbrev pub is_sound : Value → Bool
 is_sound = fold-Value Bool sound_step
-
-abbrev pub field_soundness : Named Value → Named Bool
-field_soundness field = record { name = field.name; value = is_sound field.value }

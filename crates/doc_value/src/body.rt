@@ -1,6 +1,7 @@
 ghost use Rattle.std.specs.Prelude.{◌≡◌, ◌≢◌, IfOk, map, Ok, Err};
 ghost use Rattle.std.specs.Option.{option_copied};
-ghost use Rattle.doc_value.specs.Bodies.{body_in, refused_inside, first_found, first_in_fields, refused_in_field, refused_at_top, first_refused, without_id};
+ghost use Rattle.doc_value.specs.Fields.{judged};
+ghost use Rattle.doc_value.specs.Bodies.{body_in, refused_inside, first_found, first_in_fields, refused_at_top, first_refused, without_id};
 ghost use Rattle.doc_value.specs.Readable.{IsReadable};
 ghost use Rattle.doc_value.specs.declared.doc_id.DocId.{DocId};
 ghost use Rattle.doc_value.specs.Ids.{is_value_of_id};
@@ -102,7 +103,7 @@ fn first_refused_in_items(items: &[Value]) -> Option<&Text>
 
 #[cycle(refused)]
 fn first_refused_in_fields(fields: &[Field]) -> Option<&Text>
-    ensures { option_copied result ≡ first_in_fields (map refused_in_field fields.now) }
+    ensures { option_copied result ≡ first_in_fields (map (judged refused_inside) fields.now) }
 {
     for field in fields {
         if name::is_refused(field.name.as_bytes()) {

@@ -1,4 +1,9 @@
 //! Values, bodies, paths and their JSON text.
+//!
+//! What is read is exactly the value of the text, or the first fault by the format's order; what is
+//! printed is exactly the value's compact text, which reads back as the value (`reads_back`). A body, a
+//! path and what a path leads to are exactly those of the definitions in `specs/`. Copies are equal, and
+//! equality and order take no memory.
 #![tactic(auto)]
 
 mod body;
@@ -19,7 +24,7 @@ pub use body::read_body;
 pub use doc_id::DocId;
 pub use fault::{BodyFault, PathFault, ValueFault};
 pub use laws::reads_back;
-pub use lookup::get;
+pub use lookup::{get, get_by_text};
 pub use path::Path;
 pub use print::{print_value, push_text, push_value};
 pub use read::read_value;

@@ -1,6 +1,6 @@
 ghost use Rattle.std.specs.Prelude.{◌≡◌};
 ghost use Rattle.std.specs.Option.{option_copied};
-ghost use Rattle.doc_value.specs.Paths.{field_named, field_in, get_at};
+ghost use Rattle.doc_value.specs.Paths.{field_named, field_in, get_at, parts_of};
 ghost use Rattle.doc_value.specs.declared.value.Value.{out-Value};
 
 use crate::path::Path;
@@ -13,6 +13,17 @@ pub fn get<'a>(value: &'a Value, path: &Path) -> Option<&'a Value>
 {
     let mut found = value;
     for part in path.parts() {
+        found = found.field(part.as_bytes())?;
+    }
+    Some(found)
+}
+
+/// What the path of that text leads to, by the parts between its dots. It takes no memory.
+pub fn get_by_text<'a>(value: &'a Value, path: &str) -> Option<&'a Value>
+    ensures { option_copied result ≡ get_at (parts_of path.now) value.now }
+{
+    let mut found = value;
+    for part in path.split('.') {
         found = found.field(part.as_bytes())?;
     }
     Some(found)

@@ -1,5 +1,6 @@
 ghost use Rattle.std.specs.Prelude.{◌≡◌, map, nat_lt};
-ghost use Rattle.doc_value.specs.Nesting.{nesting, deepest, deepest_field, field_nesting};
+ghost use Rattle.doc_value.specs.Fields.{judged};
+ghost use Rattle.doc_value.specs.Nesting.{nesting, deepest, deepest_field};
 
 use crate::value::{Field, Value};
 
@@ -41,7 +42,7 @@ fn some_item_is_deeper(items: &[Value], limit: u32) -> bool
 
 #[cycle(nesting)]
 fn some_field_is_deeper(fields: &[Field], limit: u32) -> bool
-    ensures { result ≡ nat_lt limit (deepest_field (map field_nesting fields.now)) }
+    ensures { result ≡ nat_lt limit (deepest_field (map (judged nesting) fields.now)) }
 {
     for field in fields {
         if is_deeper(&field.value, limit) {

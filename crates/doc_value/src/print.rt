@@ -4,12 +4,13 @@ ghost use Rattle.std.specs.Char.{digit_char};
 ghost use Rattle.std.specs.Fmt.{signed_decimal};
 ghost use Rattle.json.specs.Print.{escape, escape_byte, quoted};
 ghost use Rattle.serde_json.specs.Written.{comma_if};
+ghost use Rattle.doc_value.specs.Fields.{judged};
 ghost use Rattle.doc_value.specs.Nesting.{nesting};
 ghost use Rattle.doc_value.specs.Order.{is_ordered};
 ghost use Rattle.doc_value.specs.Readable.{holds_bad_name};
 ghost use Rattle.doc_value.specs.Reading.{value_in};
-ghost use Rattle.doc_value.specs.Sound.{is_sound, all_sound, fields_sound, field_soundness, fits_64_bits};
-ghost use Rattle.doc_value.specs.Printing.{compact, compact_field, items_text, fields_text};
+ghost use Rattle.doc_value.specs.Sound.{is_sound, all_sound, fields_sound, fits_64_bits};
+ghost use Rattle.doc_value.specs.Printing.{compact, items_text, fields_text};
 
 use crate::text::OutOfMemory;
 use crate::value::{Field, Value};
@@ -72,8 +73,8 @@ fn write_items(out: &mut Vec<u8>, items: &[Value]) -> Result<(), OutOfMemory>
 
 #[cycle(print)]
 fn write_fields(out: &mut Vec<u8>, fields: &[Field]) -> Result<(), OutOfMemory>
-    ensures exact { OnOk result (out.new.items ≡ out.old.items ++ 123 ∷ fields_text false (map compact_field fields.now)) }
-    ensures sound { OnOk result (fields_sound (map field_soundness fields.now) ≡ true) }
+    ensures exact { OnOk result (out.new.items ≡ out.old.items ++ 123 ∷ fields_text false (map (judged compact) fields.now)) }
+    ensures sound { OnOk result (fields_sound (map (judged is_sound) fields.now) ≡ true) }
 {
     out.push(b'{')?;
     let mut later = false;

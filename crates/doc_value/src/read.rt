@@ -2,9 +2,10 @@ ghost use Rattle.std.specs.Prelude.{◌≡◌, ◌≢◌, IfOk, IfErr, OnOk, Som
 ghost use Rattle.std.specs.Str.{is_utf8};
 ghost use Rattle.serde_json.specs.Data.{depth, items_depth, members_depth};
 ghost use Rattle.serde_json.specs.View.{view, items_view, members_view};
+ghost use Rattle.doc_value.specs.Fields.{judged};
 ghost use Rattle.doc_value.specs.JsonFaults.{has_bad_name, some_item_has_bad_name, some_member_has_bad_name, is_whole, items_are_whole, members_are_whole};
 ghost use Rattle.doc_value.specs.JsonValue.{value_of, values_of, fields_of};
-ghost use Rattle.doc_value.specs.Sound.{is_sound, all_sound, fields_sound, field_soundness};
+ghost use Rattle.doc_value.specs.Sound.{is_sound, all_sound, fields_sound};
 ghost use Rattle.doc_value.specs.Readable.{IsReadable};
 ghost use Rattle.doc_value.specs.Reading.{json_in, value_in};
 
@@ -199,7 +200,7 @@ fn convert_items(alloc: Global, items: &Vec<Json>) -> Result<Items<Value>, OutOf
 #[cycle(convert)]
 fn convert_members(alloc: Global, members: &Map<String, Json>) -> Result<Fields, OutOfMemory>
     ensures value { IfOk result (λ fields. fields ≡ fields_of (members_view members.now.entries)) }
-    ensures sound { OnOk result (fields_sound (map field_soundness
+    ensures sound { OnOk result (fields_sound (map (judged is_sound)
         (fields_of (members_view members.now.entries))) ≡ true) }
 {
     let mut fields = Items::new(alloc);

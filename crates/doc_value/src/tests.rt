@@ -1,9 +1,8 @@
 use crate::{
-    BodyFault, DocId, OutOfMemory, Path, PathFault, Text, Value, ValueFault, get, print_value,
-    push_text, push_value, read_body, read_value,
+    BodyFault, DocId, OutOfMemory, Path, PathFault, Text, Value, ValueFault, get, get_by_text,
+    print_value, push_text, push_value, read_body, read_value,
 };
 use std::alloc::Global;
-use std::cmp::Ordering;
 use std::test::Fail;
 
 /// JSON texts, and their values printed or their faults.
@@ -317,6 +316,11 @@ fn paths_are_followed(rt: HostRuntime) -> Result<(), Fail> {
         let shown = got(rt.alloc(), value, path)?;
         assert_eq!(rt; shown.as_slice(), *expected);
     }
+    let value = read_value(rt.alloc(), value).ok().ok_or("not read")?;
+    let found = get_by_text(&value, "a.b.c").ok_or("missing")?;
+    assert!(rt; found.equals(&Value::Int(1)));
+    assert!(rt; get_by_text(&value, "l.0").is_none());
+    assert!(rt; get_by_text(&value, "a.b.").is_none());
     Ok(())
 }
 

@@ -1,6 +1,7 @@
 use Rattle.std.proofs.Common.{◌≡◌, ◌++◌, false, map, drop}
-use Rattle.doc_value.specs.Printing.{compact, compact_field, items_text, fields_text}
-use Rattle.doc_value.specs.Sound.{is_sound, all_sound, fields_sound, field_soundness}
+use Rattle.doc_value.specs.Fields.{judged}
+use Rattle.doc_value.specs.Printing.{compact, items_text, fields_text}
+use Rattle.doc_value.specs.Sound.{is_sound, all_sound, fields_sound}
 use Rattle.doc_value.proofs.print.+print.Given as goal
 
 -- what is written, before the text of what is left, is the whole; and all that was written is sound
@@ -12,6 +13,6 @@ invariant-write_items-loop-item l = record {
 
 abbrev pub invariant-write_fields-loop-field : goal.invariant-write_fields-loop-field
 invariant-write_fields-loop-field l = record {
-  written : l.out.items ++ fields_text l.later (map compact_field (drop l.field-index l.fields)) ≡ l.initial.out.items ++ fields_text false (map compact_field l.fields);
-  sound : fields_sound (map field_soundness (drop l.field-index l.fields)) ≡ fields_sound (map field_soundness l.fields);
+  written : l.out.items ++ fields_text l.later (map (judged compact) (drop l.field-index l.fields)) ≡ l.initial.out.items ++ fields_text false (map (judged compact) l.fields);
+  sound : fields_sound (map (judged is_sound) (drop l.field-index l.fields)) ≡ fields_sound (map (judged is_sound) l.fields);
 }
