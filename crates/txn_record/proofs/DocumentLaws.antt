@@ -1,14 +1,16 @@
 -- What an operation leaves at its key and at the others.
-use Rattle.std.proofs.Common.{◌≡◌, ◌≢◌, Bool, true, false, Option, Some, None, cond, ap, ◌∙◌, refl}
+use Rattle.std.proofs.Common.{◌≡◌, ◌≢◌, Bool, true, false, ◌&&◌, [], ◌∷◌, Option, Some, None, cond, ap, ◌∙◌, refl}
 use Rattle.std.specs.Cmp.{Equal-is}
 use Rattle.std.specs.FinMap.{get, get-insert, get-remove}
 use Rattle.std.specs.Ordering.{eq_by_cmp, is_eq}
 use Rattle.std.proofs.lemmas.Cmp.{tied_itself}
 use Rattle.doc_value.specs.declared.value.Value.{Value}
 use Rattle.txn_record.proofs.KeyOrder.{key_cmp_total, key_cmp-IsAntisymmetric}
-use Rattle.txn_record.specs.Documents.{Docs, with_body, effect_of, body_after}
+use Rattle.txn_record.specs.Documents.{Docs, with_body, effect_of, body_after, assertion_holds, change_fits, tests}
 use Rattle.txn_record.specs.Keys.{key_cmp}
 use Rattle.txn_record.specs.declared.key.Key.{Key}
+use Rattle.txn_record.specs.declared.op.Assert.{Assert}
+use Rattle.txn_record.specs.declared.op.Assert.TheVariants.{Nothing}
 use Rattle.txn_record.specs.declared.op.Op.{Op}
 
 get-with_body : (key : Key) (found : Option Value) (docs : Docs) (q : Key) → get (with_body key found docs) q ≡ cond (eq_by_cmp key_cmp q key) found (get docs q)
@@ -32,3 +34,14 @@ get-effect_of_here op docs = get-with_body_here op.key (body_after op.change (ge
 
 pub get-effect_of_other : (op : Op) (docs : Docs) (key : Key) → key ≢ op.key → get (effect_of op docs) key ≡ get docs key
 get-effect_of_other op docs key apart = get-with_body_other op.key (body_after op.change (get docs op.key)) docs key apart
+
+pub no_assertion_fails : (assert : Assert) (found : Option Value) → assertion_holds assert found ≡ true
+no_assertion_fails Nothing found = refl
+
+and_true : (a b : Bool) → ((a && true) && (b && true)) ≡ (a && b)
+and_true true true = refl
+and_true true false = refl
+and_true false b = refl
+
+pub tests-alone : (op : Op) (docs : Docs) → tests (op ∷ []) docs ≡ (assertion_holds op.assert (get docs op.key) && change_fits op.change (get docs op.key))
+tests-alone op docs = and_true (assertion_holds op.assert (get docs op.key)) (change_fits op.change (get docs op.key))

@@ -1,4 +1,4 @@
-use Rattle.std.specs.Prelude.{ℕ, ◌^◌, Bool, true, false, ◌&&◌, ◌||◌, nat_le, ℤ, pos, ◌+ℤ◌, int_lt, not, unsigned_abs, Option, Some, None, option_map, unwrap_or, List, [], ◌∷◌, if◌then◌else◌}
+use Rattle.std.specs.Prelude.{ℕ, Bool, true, false, ◌&&◌, ◌||◌, nat_le, ℤ, pos, ◌+ℤ◌, int_lt, not, unsigned_abs, Option, Some, None, option_map, unwrap_or, List, [], ◌∷◌, if◌then◌else◌}
 use Rattle.std.specs.Ordering.{int_eq, is_eq}
 use Rattle.txn_record.specs.Keys.{key_cmp}
 use Rattle.txn_record.specs.declared.key.Key.{Key}

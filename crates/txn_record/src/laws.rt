@@ -1,6 +1,6 @@
 //! Laws of the sequential side: of operations on documents, and of recorded orders. The crates above
 //! cite them by these contracts.
-ghost use Rattle.std.specs.Prelude.{◌≡◌, ◌≢◌, ℕ, [], ◌∷◌, ◌++◌, List, true, false, is_ok, IsSomeAnd};
+ghost use Rattle.std.specs.Prelude.{◌≡◌, ◌≢◌, ◌&&◌, ℕ, Option, [], ◌∷◌, ◌++◌, List, true, false, is_ok, IsSomeAnd};
 ghost use Rattle.std.specs.declared.cmp.Ordering.TheVariants.{Less};
 ghost use Rattle.std.specs.FinMap.{empty, get, insert};
 ghost use Rattle.std.specs.Str.{is_utf8};
@@ -8,8 +8,9 @@ ghost use Rattle.doc_value.specs.Paths.{path_in};
 ghost use Rattle.doc_value.specs.declared.value.Value.{Value};
 ghost use Rattle.txn_record.specs.declared.entry.Entry.{Entry};
 ghost use Rattle.txn_record.specs.declared.key.Key.{Key};
+ghost use Rattle.txn_record.specs.declared.op.Assert.{Assert};
 ghost use Rattle.txn_record.specs.declared.op.Op.{Op};
-ghost use Rattle.txn_record.specs.Documents.{Docs, IsPast, effect_of, body_after, tests, outcome_effect, after, is_right, has_entry, legal};
+ghost use Rattle.txn_record.specs.Documents.{Docs, IsPast, effect, effect_of, body_after, assertion_holds, change_fits, tests, outcome_effect, after, is_right, has_entry, legal};
 ghost use Rattle.txn_record.specs.Keys.{key_cmp};
 ghost use Rattle.txn_record.specs.Updates.{holds_byte, is_settable, is_update, is_object, updated};
 
@@ -17,6 +18,18 @@ ghost use Rattle.txn_record.specs.Updates.{holds_byte, is_settable, is_update, i
 pub fn changes_are_local()
     ensures here { (op : Op) (docs : Docs) → get (effect_of op docs) op.key ≡ body_after op.change (get docs op.key) }
     ensures others { (op : Op) (docs : Docs) (key : Key) → key ≢ op.key → get (effect_of op docs) key ≡ get docs key }
+{}
+
+/// A transaction of one operation runs that operation, where its own assertion holds and its change fits.
+pub fn operations_alone()
+    ensures effect { (op : Op) (docs : Docs) → effect (op ∷ []) docs ≡ effect_of op docs }
+    ensures tests { (op : Op) (docs : Docs) →
+        tests (op ∷ []) docs ≡ (assertion_holds op.assert (get docs op.key) && change_fits op.change (get docs op.key)) }
+{}
+
+/// No assertion of the forms built so far can fail.
+pub fn assertions_hold()
+    ensures { (assert : Assert) (found : Option Value) → assertion_holds assert found ≡ true }
 {}
 
 /// A key stands after the documents' keys until one that isn't below it is added.

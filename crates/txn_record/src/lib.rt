@@ -19,7 +19,8 @@ pub use entry::{Entry, Outcome};
 pub use id::{Token, TxnId, ids_are_ordered, tokens_read_back};
 pub use key::{Key, keys_are_ordered};
 pub use laws::{
-    changes_are_local, documents_rise, orders_grow, settable_fields_are_paths, updates_fit_objects,
+    assertions_hold, changes_are_local, documents_rise, operations_alone, orders_grow,
+    settable_fields_are_paths, updates_fit_objects,
 };
 pub use op::{Assert, Change, Op};
 pub use ops::Ops;

@@ -46,6 +46,7 @@ impl Ops {
         }
     }
 
+    /// The operations, in order.
     pub fn as_slice(&self) -> &[Op]
         ensures list { result.now ≡ self.now }
         ensures sound { IsTransaction self.now }

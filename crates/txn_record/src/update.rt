@@ -1,7 +1,7 @@
-ghost use Rattle.std.specs.Prelude.{◌≡◌, [], ◌∷◌, ◌++◌, IfOk, OnOk, filter, is_some};
+ghost use Rattle.std.specs.Prelude.{◌≡◌, [], ◌∷◌, ◌++◌, IfOk, OnOk, filter, is_some, true};
 ghost use Rattle.std.specs.Option.{option_copied};
 ghost use Rattle.doc_value.specs.declared.value.Value.{out-Value};
-ghost use Rattle.txn_record.specs.Updates.{only_field, is_scalar, is_bad_path, is_reserved, is_settable, as_setting, setting_of_operator, setting_of, update_in, is_below, is_above, with_field, updated};
+ghost use Rattle.txn_record.specs.Updates.{only_field, is_scalar, is_bad_path, is_reserved, is_settable, as_setting, setting_of_operator, setting_of, is_update, update_in, is_below, is_above, with_field, updated};
 
 use doc_value::{Field, Fields, Named, OutOfMemory, Value};
 use sqlite_items::Items;
@@ -47,7 +47,8 @@ impl Update {
 
     /// The value that it was read from.
     pub fn source(&self) -> &Value
-        ensures { result.now ≡ self.now }
+        ensures value { result.now ≡ self.now }
+        ensures update { is_update self.now ≡ true }
     {
         &self.source
     }
