@@ -29,3 +29,9 @@ pub record OneCall {S T E : Type 0} (tells : Bool) (content : S → Content) (pl
   pub counted_err : OnErr result ((calls new ≡ calls old + 1) ⊎ (calls new ≡ calls old))
   pub later : faults old ≤ faults new
   pub fault : IsErrOf result failed → Rose (faults old) (faults new)
+
+-- What any number of calls on a store keep.
+pub record CallsGoOn {S : Type 0} (tells : Bool) (content : S → Content) (place : S → ℕ → Content) (calls faults : S → ℕ) (old new : S) : Type 0 where
+  pub trail : IsTrue tells → GoesOn (place old) (place new) (calls old) (calls new) (content new)
+  pub counted : calls old ≤ calls new
+  pub later : faults old ≤ faults new
