@@ -1,10 +1,15 @@
-use Rattle.std.specs.Prelude.{◌≡◌, ℕ, ◌≤◌, true, false, Some, Option, ◌⊎◌}
+use Rattle.std.specs.Prelude.{◌≡◌, ℕ, ◌≤◌, ℤ, Bool, true, false, ◌||◌, Some, Option, List, ◌⊎◌}
 use Rattle.txn_record.specs.declared.id.TxnId.{TxnId}
 use Rattle.txn_record.specs.declared.id.Token.{Token}
 use Rattle.txn_record.specs.declared.key.Key.{Key}
+use Rattle.txn_record.specs.declared.record.Record.{Record}
+use Rattle.txn_record.specs.declared.state.State.{State}
+use Rattle.txn_record.specs.declared.state.State.TheVariants as state
+use Rattle.txn_record.specs.States.{is_decided_state}
+use Rattle.store_trait.specs.Names.{same_state}
 use Rattle.store_trait.specs.Contents.{Content}
 use Rattle.store_trait.specs.View.{View, look, decided, settled, chosen, valid_nonce, HasKey}
-use Rattle.store_trait.specs.Readiness.{StandsAt, IsReady, IsSpent}
+use Rattle.store_trait.specs.Readiness.{In, StandsAt, IsReady, IsSpent}
 
 -- Nothing new stands before a decided record: states go on, keys and nonces stay, and what stands
 -- before a decided record now stood there before.
@@ -27,6 +32,33 @@ pub record IsLater (old new : View) : Type 0 where
   pub counter : old.counter ≤ new.counter
   pub stays : (key : Key) (x : Token) (id : TxnId) → StandsAt old key x id → StandsAt new key x id ⊎ IsSpent new x
   pub held : (id : TxnId) (key : Key) → IsUndecided old id → IsReady old id → IsUndecided new id → HasKey old id key → new.held_at key ≡ old.held_at key
+
+-- the states that a record may be in later on
+abbrev pub may_follow : State → State → Bool
+may_follow state.Preparing to = true
+may_follow state.Prepared to = is_decided_state to
+may_follow state.Aborting to = same_state to state.Aborting || same_state to state.Aborted
+may_follow state.Applying to = same_state to state.Applying || same_state to state.Applied
+may_follow state.Aborted to = same_state to state.Aborted
+may_follow state.Applied to = same_state to state.Applied
+
+-- a record as it is later on: the same transaction, with what was written of it once
+pub record GoesTo (old new : Record) : Type 0 where
+  pub ops : new.ops ≡ old.ops
+  pub info : new.info ≡ old.info
+  pub state : may_follow old.state new.state ≡ true
+  pub nonce : (nonce : ℕ) → old.nonce ≡ Some nonce → new.nonce ≡ Some nonce
+  pub revnos : (revnos : List ℤ) → old.revnos ≡ Some revnos → new.revnos ≡ Some revnos
+
+pub record IsStillThere (view : View) (id : TxnId) (rec : Record) : Type 0 where
+  pub now : Record
+  pub there : view.record_at id ≡ Some now
+  pub goes : GoesTo rec now
+
+-- No record goes away, and no token leaves an owner queue but one that may be taken out.
+pub record NothingLost (old new : View) : Type 0 where
+  pub records : (id : TxnId) (rec : Record) → old.record_at id ≡ Some rec → IsStillThere new id rec
+  pub tokens : (key : Key) (x : Token) → In x (old.queue_at key) → In x (new.queue_at key) ⊎ IsSpent new x
 
 abbrev pub Later : Content → Content → Type 0
 Later old new = IsLater (look old) (look new)

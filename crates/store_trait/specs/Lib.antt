@@ -13,3 +13,4 @@ pub mod Meaning
 pub mod Decisions
 pub mod History
 pub mod Steps
+pub mod Done

@@ -1,5 +1,6 @@
 use Rattle.std.specs.Prelude.{◌≡◌, ℕ, ◌<◌, Bool, true, false, ◌&&◌, not, ℤ, pos, int_lt, IsTrue, IfSome, Option, Some, None, is_some, unwrap_or, option_map, option_to_list, List, [], ◌∷◌, ◌++◌}
 use Rattle.std.specs.FinMap.{get}
+use Rattle.txn_record.specs.Documents.{changes_fit}
 use Rattle.txn_record.specs.Revnos.{follows, stays_within, is_within, is_present, is_on_chain}
 use Rattle.txn_record.specs.declared.id.TxnId.{TxnId}
 use Rattle.txn_record.specs.declared.id.Token.{Token}
@@ -7,7 +8,8 @@ use Rattle.txn_record.specs.declared.key.Key.{Key}
 use Rattle.txn_record.specs.declared.record.Record.{Record}
 use Rattle.txn_record.specs.declared.state.State.{State}
 use Rattle.txn_record.specs.declared.state.State.TheVariants as state
-use Rattle.store_trait.specs.Names.{same_state}
+use Rattle.store_trait.specs.Meaning.{pending_of, bodies}
+use Rattle.store_trait.specs.Names.{same_state, may_stand}
 use Rattle.store_trait.specs.Contents.{Content}
 use Rattle.store_trait.specs.View.{View, look, record_at, doc_at, stash_at, counter, chosen, applying, waits_for_documents, HasKey, IsOn, held_number}
 use Rattle.store_trait.specs.Readiness.{token, In, Before, IsReady, Sealed}
@@ -64,8 +66,14 @@ AllBelow counter tokens = (x : Token) → In x tokens → x.nonce < counter
 pub record StandsOnChain (view : View) (rec : Record) : Type 0 where
   pub on_chain : (key : Key) → IsOn key rec.ops → is_on_chain key (held_number (view.held_at key)) rec.ops (unwrap_or rec.revnos []) ≡ true
 
--- What holds of every content on the way, between any two calls on the store.
+-- what an applying record has still to do fits the bodies that it finds, as its operations run
+abbrev pub PendingFits : Content → Record → Type 0
+PendingFits c rec = changes_fit (pending_of (look c) rec) (bodies c) ≡ true
+
+-- What holds of every content on the way, between any two calls on the store. Each cell is of its
+-- name's kind, and a record stands under its own id.
 pub record IsSound (c : Content) : Type 0 where
+  pub kinds : (n : Name) (x : Cell) → get c n ≡ Some x → may_stand n x ≡ true
   pub numbers : (n : Name) (x : Cell) → get c n ≡ Some x → is_numbered x ≡ true
   pub doc_tokens : (key : Key) (doc : DocCell) → doc_at c key ≡ Some doc → HasSoundTokens (look c) key doc.queue (tokens_of_doc doc)
   pub stash_tokens : (key : Key) (stash : StashCell) → stash_at c key ≡ Some stash → HasSoundTokens (look c) key stash.queue (tokens_of_stash stash)
@@ -76,3 +84,4 @@ pub record IsSound (c : Content) : Type 0 where
   pub ready : (id : TxnId) → applying (look c) id ≡ true → IsReady (look c) id
   pub sealed : (id : TxnId) → chosen (look c) id ≡ true → Sealed (look c) id
   pub on_chain : (id : TxnId) (rec : Record) → record_at c id ≡ Some rec → IsTrue (same_state state.Applying rec.state) → StandsOnChain (look c) rec
+  pub fits : (id : TxnId) (rec : Record) → record_at c id ≡ Some rec → IsTrue (same_state state.Applying rec.state) → PendingFits c rec

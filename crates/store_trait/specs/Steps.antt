@@ -1,10 +1,14 @@
-use Rattle.std.specs.Prelude.{◌≡◌, ℕ, true, false, List, [], ◌∷◌}
+use Rattle.std.specs.Prelude.{◌≡◌, ℕ, true, false, Some, List, [], ◌∷◌}
 use Rattle.txn_record.specs.Documents.{effect, tests}
 use Rattle.txn_record.specs.declared.entry.Entry.{Entry}
 use Rattle.txn_record.specs.declared.record.Record.{Record}
 use Rattle.store_trait.specs.Contents.{Content}
 use Rattle.store_trait.specs.Soundness.{IsSound}
-use Rattle.store_trait.specs.Later.{Later}
+use Rattle.store_trait.specs.Later.{Later, NothingLost}
+use Rattle.txn_record.specs.declared.state.State.{State}
+use Rattle.txn_record.specs.declared.state.State.TheVariants as state
+use Rattle.store_trait.specs.View.{look, record_at, chosen}
+use Rattle.store_trait.specs.Done.{StaysDone}
 use Rattle.store_trait.specs.Meaning.{meaning}
 use Rattle.store_trait.specs.Decisions.{decided_by, entry_at}
 
@@ -12,6 +16,8 @@ use Rattle.store_trait.specs.Decisions.{decided_by, entry_at}
 pub record IsStep (old new : Content) : Type 0 where
   pub sound : IsSound new
   pub later : Later old new
+  pub lost : NothingLost (look old) (look new)
+  pub done : StaysDone old new
 
 -- a call that decides nothing: the meaning stays
 pub record IsQuiet (old new : Content) : Type 0 where
@@ -19,10 +25,17 @@ pub record IsQuiet (old new : Content) : Type 0 where
   pub means : meaning new ≡ meaning old
   pub none : (at : ℕ) → decided_by old new at ≡ []
 
+-- a record that was not chosen yet, and stands now in a state that is
+pub record ComesTo (old new : Content) (rec : Record) (to : State) : Type 0 where
+  pub before : chosen (look old) rec.id ≡ false
+  pub now : record_at new rec.id ≡ Some rec
+  pub state : rec.state ≡ to
+
 -- The call that decides to apply: the tests hold on the meaning, which becomes the effect of the
 -- whole transaction on it.
 pub record Applies (old new : Content) (rec : Record) : Type 0 where
   pub step : IsStep old new
+  pub chosen : ComesTo old new rec state.Applying
   pub tested : tests rec.ops (meaning old) ≡ true
   pub means : meaning new ≡ effect rec.ops (meaning old)
   pub one : (at : ℕ) → decided_by old new at ≡ entry_at at rec ∷ []
@@ -30,6 +43,7 @@ pub record Applies (old new : Content) (rec : Record) : Type 0 where
 -- The call that decides to abort: a test fails on the meaning, which stays.
 pub record Aborts (old new : Content) (rec : Record) : Type 0 where
   pub step : IsStep old new
+  pub chosen : ComesTo old new rec state.Aborting
   pub failed : tests rec.ops (meaning old) ≡ false
   pub means : meaning new ≡ meaning old
   pub one : (at : ℕ) → decided_by old new at ≡ entry_at at rec ∷ []

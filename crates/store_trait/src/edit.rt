@@ -1,7 +1,9 @@
 ghost use Rattle.std.specs.Prelude.{◌≡◌, IfOk};
 
 use crate::cell::Cell;
+use doc_value::OutOfMemory;
 use sqlite_items::Items;
+use std::alloc::Global;
 use txn_record::{Record, State, Token, Update};
 
 /// A change of one cell, made only where its guard holds.
@@ -38,9 +40,89 @@ pub enum Edit {
     },
 }
 
+impl Edit {
+    /// An equal edit.
+    pub fn copy(&self, alloc: Global) -> Result<Edit, OutOfMemory>
+        ensures { IfOk result (λ copy. copy ≡ self.now) }
+    {
+        match self {
+            Edit::InsertRecord { rec } => {
+                let rec = rec.copy(alloc)?;
+                Ok(Edit::InsertRecord { rec })
+            }
+            Edit::Move {
+                from,
+                to,
+                nonce,
+                revnos,
+            } => {
+                let revnos = copy_revnos(alloc, revnos)?;
+                Ok(Edit::Move {
+                    from: *from,
+                    to: *to,
+                    nonce: *nonce,
+                    revnos,
+                })
+            }
+            Edit::AddToken { token } => Ok(Edit::AddToken { token: *token }),
+            Edit::Update {
+                revno,
+                token,
+                update,
+            } => {
+                let update = update.copy(alloc)?;
+                Ok(Edit::Update {
+                    revno: *revno,
+                    token: *token,
+                    update,
+                })
+            }
+            Edit::DrawNonce => Ok(Edit::DrawNonce),
+            Edit::Place { cell } => {
+                let cell = cell.copy(alloc)?;
+                Ok(Edit::Place { cell })
+            }
+        }
+    }
+}
+
+fn copy_revnos(
+    alloc: Global,
+    revnos: &Option<Items<i64>>,
+) -> Result<Option<Items<i64>>, OutOfMemory>
+    ensures { IfOk result (λ copy. copy ≡ revnos.now) }
+{
+    match revnos {
+        None => Ok(None),
+        Some(list) => Ok(Some(Items::from_slice(alloc, list.as_slice())?)),
+    }
+}
+
 /// What an edit came to: whether its guard held, and the cell after the call in both cases.
 #[derive(Drop)]
 pub struct Edited {
     pub hit: bool,
     pub cell: Option<Cell>,
+}
+
+impl Edited {
+    /// An equal answer.
+    pub fn copy(&self, alloc: Global) -> Result<Edited, OutOfMemory>
+        ensures { IfOk result (λ copy. copy ≡ self.now) }
+    {
+        let cell = copy_found(alloc, &self.cell)?;
+        Ok(Edited {
+            hit: self.hit,
+            cell,
+        })
+    }
+}
+
+fn copy_found(alloc: Global, found: &Option<Cell>) -> Result<Option<Cell>, OutOfMemory>
+    ensures { IfOk result (λ copy. copy ≡ found.now) }
+{
+    match found {
+        None => Ok(None),
+        Some(cell) => Ok(Some(cell.copy(alloc)?)),
+    }
 }
