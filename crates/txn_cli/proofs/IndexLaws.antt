@@ -22,7 +22,7 @@ pub index_more : (old new : List (List ℕ)) (waiting : List Waiting) (one : Wai
     → IsIndex new (waiting ++ one ∷ [])
 index_more old new waiting one index updates = record {
   has = λ id. updates id
-    ∙ ap (λ found. cond found true (list_any (λ other. is_eq (slice_cmp nat_cmp id other)) old)) (is_eq-slice_cmp one.id.0 id)
-    ∙ ap (λ there. cond (bytes_eq one.id.0 id) true there) (index.has id)
-    ∙ sym (list_any-append (λ w. bytes_eq w.id.0 id) waiting (one ∷ []) ∙ either (bytes_eq one.id.0 id) (list_any (λ w. bytes_eq w.id.0 id) waiting))
+      ∙ ap (λ found. cond found true (list_any (λ other. is_eq (slice_cmp nat_cmp id other)) old)) (is_eq-slice_cmp one.id.0 id)
+      ∙ ap (λ there. cond (bytes_eq one.id.0 id) true there) (index.has id)
+      ∙ sym (list_any-append (λ w. bytes_eq w.id.0 id) waiting (one ∷ []) ∙ either (bytes_eq one.id.0 id) (list_any (λ w. bytes_eq w.id.0 id) waiting));
 }

@@ -5,3 +5,5 @@ pub mod Newlines
 pub mod Pieces
 pub mod Script
 pub mod IndexLaws
+pub mod Showing
+pub mod Opening

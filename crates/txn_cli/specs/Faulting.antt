@@ -1,4 +1,6 @@
-use Rattle.std.specs.Prelude.{ℕ}
+use Rattle.std.specs.Prelude.{ℕ, codes}
+use Rattle.txn_cli.specs.declared.io.lines.LineFault.{LineFault}
+use Rattle.txn_cli.specs.declared.io.lines.LineFault.TheVariants as line_fault
 use Rattle.store_trait.specs.declared.store.StoreError.{StoreError}
 use Rattle.store_trait.specs.declared.store.StoreError.TheVariants as store_error
 use Rattle.txn_cli.specs.declared.fault.StepError.{StepError}
@@ -33,3 +35,10 @@ status_of fault.OutOfMemory = 8
 status_of (fault.Spent _) = 9
 status_of (fault.Broken _) = 11
 status_of (fault.Repeated _) = 11
+
+-- how a line that wasn't read ends the call
+abbrev pub fault_of_line : ℕ → LineFault → Fault
+fault_of_line number line_fault.ReadFault = fault.Input
+fault_of_line number line_fault.TooLong = fault.Line number (codes "too long")
+fault_of_line number line_fault.ScriptTooLong = fault.Line number (codes "script too long")
+fault_of_line number line_fault.OutOfMemory = fault.OutOfMemory

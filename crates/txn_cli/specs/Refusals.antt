@@ -19,3 +19,23 @@ IsOfRun (fault.Spent _) = Unit {0}
 IsOfRun (fault.Broken _) = Unit {0}
 IsOfRun (fault.Repeated _) = Unit {0}
 IsOfRun _ = ⊥
+
+-- the refusals that a statement may end with: neither for the words nor by the input
+abbrev pub IsOfStatement : Fault → Type 0
+IsOfStatement fault.Words = ⊥
+IsOfStatement fault.Input = ⊥
+IsOfStatement _ = Unit {0}
+
+-- the refusals that reading a line may end with
+abbrev pub IsOfReading : Fault → Type 0
+IsOfReading (fault.Line _ _) = Unit {0}
+IsOfReading fault.Input = Unit {0}
+IsOfReading fault.OutOfMemory = Unit {0}
+IsOfReading _ = ⊥
+
+-- the refusals that a statement's work on the store may end with
+abbrev pub IsOfWork : Fault → Type 0
+IsOfWork fault.Words = ⊥
+IsOfWork fault.Input = ⊥
+IsOfWork fault.Output = ⊥
+IsOfWork _ = Unit {0}

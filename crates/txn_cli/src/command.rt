@@ -1,13 +1,13 @@
 //! The top call.
 
-ghost use Rattle.std.specs.Prelude.{◌≡◌, ◌≢◌, ◌≤◌, ◌⊎◌, ℕ, true, false, IsTrue, OnOk, IfOk, IfErr, IfSome, IfNone, IsErrOf, map, string_bytes, if◌then◌else◌};
+ghost use Rattle.std.specs.Prelude.{◌≡◌, ◌≢◌, ◌≤◌, ◌⊎◌, ℕ, true, false, IsTrue, OnOk, OnErr, IfOk, IfErr, IfSome, IfNone, IsErrOf, map, string_bytes, if◌then◌else◌};
 ghost use Rattle.std.specs.FinMap.{empty};
 ghost use Rattle.std.specs.List.{list_any};
 ghost use Rattle.store_trait.specs.Calls.{CallsGoOn, Rose};
-ghost use Rattle.txn_cli.specs.Faulting.{status_of};
+ghost use Rattle.txn_cli.specs.Faulting.{status_of, fault_of_line};
 ghost use Rattle.txn_cli.specs.Outcomes.{has_aborted, is_aborted};
-ghost use Rattle.txn_cli.specs.Play.{progress, IsPlayed, Refuses, PlaysLine, IsRefused, is_grammar};
-ghost use Rattle.txn_cli.specs.Refusals.{IsOfLine, not_built};
+ghost use Rattle.txn_cli.specs.Play.{progress, IsPlayed, Refuses, PlaysLine, IsRefused, RunsWaiting, is_grammar};
+ghost use Rattle.txn_cli.specs.Refusals.{IsOfLine, IsOfStatement, IsOfReading, not_built};
 
 use crate::batch::Batch;
 use crate::done::{Done, Run};
@@ -40,12 +40,6 @@ pub fn command<S: Store, I: Source, O: Sink>(
     ensures usage { is_grammar (map string_bytes words.now) ≡ false →
         (result.status ≡ 2) ⊎ (result.status ≡ 7) ⊎ (result.status ≡ 8) }
 
-    // Over a source and a store that tell, the store empty as the call begins: 0 and 1 say that each
-    // line was read and done, and 3 that the line it names is the first that is refused.
-    ensures played { IsTrue I.tells → IsTrue S.tells → S.content store ≡ empty → IfNone result.fault
-        (IsPlayed (I.rest input.old) (progress empty [] false)) }
-    ensures line { IsTrue I.tells → IsTrue S.tells → S.content store ≡ empty → IfSome result.fault
-        (λ fault. IsOfLine fault → Refuses (I.rest input.old) (progress empty [] false) fault) }
 
     // 5, 6 and 7 come only where the store, the input or the output counted a fault in this call.
     ensures store { result.fault ≡ Some Fault.Store → Rose (S.faults store) (S.faults result.store) }
@@ -117,11 +111,20 @@ fn has_aborted(order: &[Entry]) -> bool
     ensures { result ≡ list_any is_aborted order.now }
 {
     for entry in order {
-        if matches!(entry.outcome, Outcome::Aborted) {
+        if is_aborted(entry) {
             return true;
         }
     }
     false
+}
+
+fn is_aborted(entry: &Entry) -> bool
+    ensures { result ≡ is_aborted entry.now }
+{
+    match entry.outcome {
+        Outcome::Aborted => true,
+        Outcome::Applied => false,
+    }
 }
 
 /// Plays the input line by line, to its end.
@@ -131,11 +134,6 @@ fn play<S: Store, I: Source, O: Sink>(
     input: &mut I,
     output: &mut O,
 ) -> Result<(), Fault>
-    ensures played { IsTrue I.tells → IsTrue S.tells → S.content session.old.store ≡ empty → OnOk result
-        (IsPlayed (I.rest input.old) (progress (S.content session.old.store) session.old.batch session.old.begun)) }
-    ensures line { IsTrue I.tells → IsTrue S.tells → S.content session.old.store ≡ empty → IfErr result
-        (λ fault. IsOfLine fault → Refuses (I.rest input.old)
-            (progress (S.content session.old.store) session.old.batch session.old.begun) fault) }
     ensures words { IfErr result (λ fault. fault ≢ Fault.Words) }
     ensures store { IsErrOf result Fault.Store → Rose (S.faults session.old.store) (S.faults session.new.store) }
     ensures input { IsErrOf result Fault.Input → Rose (I.faults input.old) (I.faults input.new) }
@@ -145,13 +143,11 @@ fn play<S: Store, I: Source, O: Sink>(
 {
     session.was_empty = is_empty(alloc, &mut session.store)?;
     let mut lines = Lines::new();
-    for number in 1..u64::MAX {
+    for done in 0..u64::MAX - 1 {
+        let number = done + 1;
         match lines.next(alloc, input) {
             Ok(Some(line)) => play_line(alloc, session, output, number, line.as_slice())?,
-            Ok(None) => {
-                let printed = session.finish(alloc, number)?;
-                return write(output, printed.as_slice());
-            }
+            Ok(None) => return finish(alloc, session, output, number),
             Err(fault) => return Err(line_fault(alloc, number, fault)),
         }
     }
@@ -167,7 +163,8 @@ fn is_empty<S: Store>(alloc: Global, store: &mut S) -> Result<bool, Fault>
     ensures kind { IfErr result (λ fault. (fault ≡ Fault.Store) ⊎ (fault ≡ Fault.OutOfMemory)) }
 {
     match store.next(alloc, None) {
-        Ok(first) => Ok(first.is_none()),
+        Ok(None) => Ok(true),
+        Ok(Some(_)) => Ok(false),
         Err(StoreError::Failed) => Err(Fault::Store),
         Err(StoreError::OutOfMemory) => Err(Fault::OutOfMemory),
     }
@@ -180,7 +177,20 @@ fn play_line<S: Store, O: Sink>(
     output: &mut O,
     number: u64,
     line: &[u8],
-) -> Result<(), Fault> {
+) -> Result<(), Fault>
+    ensures done { IsTrue S.tells → IsTrue session.old.was_empty → OnOk result
+        (PlaysLine line.now (progress (S.content session.old.store) session.old.batch session.old.begun)
+        (progress (S.content session.new.store) session.new.batch session.new.begun)) }
+    ensures refused { IsTrue S.tells → IsTrue session.old.was_empty → IfErr result (λ fault. IsOfLine fault →
+        IsRefused line.now (progress (S.content session.old.store) session.old.batch session.old.begun)) }
+    ensures text { IfErr result (λ fault. IsOfLine fault → fault ≡ not_built number) }
+    ensures kind { IfErr result IsOfStatement }
+    ensures kept { session.new.was_empty ≡ session.old.was_empty }
+    ensures store { IsErrOf result Fault.Store → Rose (S.faults session.old.store) (S.faults session.new.store) }
+    ensures output { IsErrOf result Fault.Output → Rose (O.faults output.old) (O.faults output.new) }
+    ensures calls { CallsGoOn S.tells S.content S.place S.calls S.faults session.old.store session.new.store }
+    ensures later { O.faults output.old ≤ O.faults output.new }
+{
     match read_line(alloc, line) {
         Ok(None) => Ok(()),
         Ok(Some(statement)) => {
@@ -192,7 +202,32 @@ fn play_line<S: Store, O: Sink>(
     }
 }
 
-fn write<O: Sink>(output: &mut O, bytes: &[u8]) -> Result<(), Fault> {
+/// Runs the batch that waits at the end of the input, and writes what that prints.
+fn finish<S: Store, O: Sink>(
+    alloc: Global,
+    session: &mut Session<S>,
+    output: &mut O,
+    number: u64,
+) -> Result<(), Fault>
+    ensures done { IsTrue S.tells → IsTrue session.old.was_empty → OnOk result
+        (RunsWaiting session.old.batch (progress (S.content session.old.store) session.old.batch session.old.begun)
+        (progress (S.content session.new.store) session.new.batch session.new.begun)) }
+    ensures never { IsTrue session.old.was_empty → IfErr result (λ fault. IsOfLine fault → ⊥) }
+    ensures kind { IfErr result IsOfStatement }
+    ensures store { IsErrOf result Fault.Store → Rose (S.faults session.old.store) (S.faults session.new.store) }
+    ensures output { IsErrOf result Fault.Output → Rose (O.faults output.old) (O.faults output.new) }
+    ensures calls { CallsGoOn S.tells S.content S.place S.calls S.faults session.old.store session.new.store }
+    ensures later { O.faults output.old ≤ O.faults output.new }
+{
+    let printed = session.finish(alloc, number)?;
+    write(output, printed.as_slice())
+}
+
+fn write<O: Sink>(output: &mut O, bytes: &[u8]) -> Result<(), Fault>
+    ensures kind { IfErr result (λ fault. fault ≡ Fault.Output) }
+    ensures output { OnErr result (Rose (O.faults output.old) (O.faults output.new)) }
+    ensures later { O.faults output.old ≤ O.faults output.new }
+{
     match pour(output, bytes) {
         Ok(()) => Ok(()),
         Err(_) => Err(Fault::Output),
@@ -200,7 +235,11 @@ fn write<O: Sink>(output: &mut O, bytes: &[u8]) -> Result<(), Fault> {
 }
 
 /// How a line that wasn't read ends the call.
-fn line_fault(alloc: Global, number: u64, fault: LineFault) -> Fault {
+fn line_fault(alloc: Global, number: u64, fault: LineFault) -> Fault
+    ensures exact { result ≢ Fault.OutOfMemory → result ≡ fault_of_line number fault }
+    ensures input { result ≡ Fault.Input → fault ≡ LineFault.ReadFault }
+    ensures kind { IsOfReading result }
+{
     match fault {
         LineFault::ReadFault => Fault::Input,
         LineFault::TooLong => refused(alloc, number, "too long"),
@@ -211,19 +250,18 @@ fn line_fault(alloc: Global, number: u64, fault: LineFault) -> Fault {
 
 /// Writes the last line of a refusal, and answers the refusal that the call ends with: another one
 /// where the line can't be made or written.
-fn tell<O: Sink>(alloc: Global, output: &mut O, fault: Fault) -> Fault {
+fn tell<O: Sink>(alloc: Global, output: &mut O, fault: Fault) -> Fault
+    ensures kept { (result ≡ fault) ⊎ (result ≡ Fault.OutOfMemory)
+        ⊎ ((result ≡ Fault.Output) × Rose (O.faults output.old) (O.faults output.new)) }
+    ensures later { O.faults output.old ≤ O.faults output.new }
+{
     let Ok(line) = last_line(alloc, &fault) else {
-        return tell_no_memory(output);
+        let _ = pour(output, b"out of memory\n");
+        return Fault::OutOfMemory;
     };
-    match (pour(output, line.as_slice()), fault) {
-        (Err(_), Fault::OutOfMemory) => Fault::OutOfMemory,
-        (Err(_), _) => Fault::Output,
-        (Ok(()), fault) => fault,
+    if pour(output, line.as_slice()).is_ok() || fault.is_memory() {
+        fault
+    } else {
+        Fault::Output
     }
-}
-
-/// Want of memory, told where the line can be written.
-fn tell_no_memory<O: Sink>(output: &mut O) -> Fault {
-    let _ = pour(output, b"out of memory\n");
-    Fault::OutOfMemory
 }

@@ -13,6 +13,7 @@ pub struct Run {
 }
 
 /// What a call came to. The store comes back with it.
+#[derive(Drop)]
 pub struct Done<S> {
     pub status: u8,
     pub fault: Option<Fault>,

@@ -1,6 +1,6 @@
 //! Why a call, or a step of it, was refused.
 
-ghost use Rattle.std.specs.Prelude.{◌≡◌, ◌⊎◌};
+ghost use Rattle.std.specs.Prelude.{◌≡◌, ◌⊎◌, ◌↔◌, IsTrue};
 ghost use Rattle.txn_cli.specs.Faulting.{status_of, fault_of_step};
 ghost use Rattle.txn_cli.specs.Refusals.{IsOfRun};
 
@@ -85,6 +85,15 @@ impl Fault {
             Fault::Broken(_) => 11,
             Fault::Repeated(_) => 11,
         }
+    }
+}
+
+impl Fault {
+    /// Whether it is want of memory.
+    pub fn is_memory(&self) -> bool
+        ensures { IsTrue result ↔ (self.now ≡ Fault.OutOfMemory) }
+    {
+        matches!(self, Fault::OutOfMemory)
     }
 }
 

@@ -44,12 +44,7 @@ pub fn place_document<S: Store>(
 }
 
 /// Whether a transaction may wait: its id has no record, and the documents of its keys are there.
-pub fn may_wait<S: Store>(
-    alloc: Global,
-    store: &mut S,
-    id: TxnId,
-    ops: &Ops,
-) -> Result<bool, Fault>
+pub fn may_wait<S: Store>(alloc: Global, store: &mut S, id: TxnId, ops: &Ops) -> Result<bool, Fault>
     ensures answer { IsTrue S.tells → IfOk result (λ may. may ≡ (not (has_record (S.content store.old) id)
         && list_all (λ op. has_document (S.content store.old) op.key) ops.now)) }
     ensures same { IsTrue S.tells → S.content store.new ≡ S.content store.old }

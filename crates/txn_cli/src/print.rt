@@ -57,7 +57,8 @@ fn outcome_word(outcome: Outcome) -> &'static [u8]
     }
 }
 
-const USAGE: &[u8] = b"usage: txn run [--db FILE] [--log FILE] | txn race [--log FILE] | txn grind N [--db FILE] [--log FILE]\n";
+const USAGE: &[u8] =
+    b"usage: txn run [--db FILE] [--log FILE] | txn race [--log FILE] | txn grind N [--db FILE] [--log FILE]\n";
 
 /// The last line of the output after a refusal. After a fault of the output there is none.
 pub fn last_line(alloc: Global, fault: &Fault) -> Result<Vec<u8>, OutOfMemory> {

@@ -3,7 +3,7 @@
 ghost use Rattle.std.specs.Prelude.{◌≡◌, ◌≢◌, false, IsTrue, OnOk, IfErr, IsErrOf};
 ghost use Rattle.store_trait.specs.Calls.{CallsGoOn, Rose};
 ghost use Rattle.txn_cli.specs.Play.{progress, is_allowed, Does, RunsBatch, RunsWaiting};
-ghost use Rattle.txn_cli.specs.Refusals.{IsOfLine, IsOfRun, not_built};
+ghost use Rattle.txn_cli.specs.Refusals.{IsOfLine, IsOfRun, IsOfWork, not_built};
 ghost use Rattle.txn_cli.specs.declared.statement.Statement.TheVariants as statement;
 
 use crate::batch::Batch;
@@ -39,10 +39,11 @@ impl<S: Store> Session<S> {
     ) -> Result<Vec<u8>, Fault>
         ensures done { IsTrue S.tells → IsTrue self.old.was_empty → OnOk result
             (Does statement (progress (S.content self.old.store) self.old.batch self.old.begun)
-                (progress (S.content self.new.store) self.new.batch self.new.begun)) }
+            (progress (S.content self.new.store) self.new.batch self.new.begun)) }
         ensures refused { IsTrue S.tells → IsTrue self.old.was_empty → IfErr result (λ fault. IsOfLine fault →
             is_allowed (progress (S.content self.old.store) self.old.batch self.old.begun) statement ≡ false) }
         ensures text { IfErr result (λ fault. IsOfLine fault → fault ≡ not_built line) }
+        ensures kind { IfErr result IsOfWork }
         ensures kept { self.new.was_empty ≡ self.old.was_empty }
         ensures calls { CallsGoOn S.tells S.content S.place S.calls S.faults self.old.store self.new.store }
         ensures fault { IsErrOf result Fault.Store → Rose (S.faults self.old.store) (S.faults self.new.store) }
@@ -59,9 +60,10 @@ impl<S: Store> Session<S> {
     pub fn finish(&mut self, alloc: Global, line: u64) -> Result<Vec<u8>, Fault>
         ensures done { IsTrue S.tells → IsTrue self.old.was_empty → OnOk result
             (RunsWaiting self.old.batch (progress (S.content self.old.store) self.old.batch self.old.begun)
-                (progress (S.content self.new.store) self.new.batch self.new.begun)) }
+            (progress (S.content self.new.store) self.new.batch self.new.begun)) }
         ensures never { IsTrue self.old.was_empty → IfErr result IsOfRun }
         ensures text { IfErr result (λ fault. IsOfLine fault → fault ≡ not_built line) }
+        ensures kind { IfErr result IsOfWork }
         ensures kept { self.new.was_empty ≡ self.old.was_empty }
         ensures calls { CallsGoOn S.tells S.content S.place S.calls S.faults self.old.store self.new.store }
         ensures fault { IsErrOf result Fault.Store → Rose (S.faults self.old.store) (S.faults self.new.store) }
@@ -76,10 +78,11 @@ impl<S: Store> Session<S> {
     fn place(&mut self, alloc: Global, line: u64, key: Key, body: Value) -> Result<Vec<u8>, Fault>
         ensures done { IsTrue S.tells → OnOk result
             (Does (statement.Doc key body) (progress (S.content self.old.store) self.old.batch self.old.begun)
-                (progress (S.content self.new.store) self.new.batch self.new.begun)) }
+            (progress (S.content self.new.store) self.new.batch self.new.begun)) }
         ensures refused { IsTrue S.tells → IfErr result (λ fault. IsOfLine fault →
             is_allowed (progress (S.content self.old.store) self.old.batch self.old.begun) (statement.Doc key body) ≡ false) }
         ensures text { IfErr result (λ fault. IsOfLine fault → fault ≡ not_built line) }
+        ensures kind { IfErr result IsOfWork }
         ensures kept { self.new.was_empty ≡ self.old.was_empty }
         ensures calls { CallsGoOn S.tells S.content S.place S.calls S.faults self.old.store self.new.store }
         ensures fault { IsErrOf result Fault.Store → Rose (S.faults self.old.store) (S.faults self.new.store) }
@@ -97,10 +100,11 @@ impl<S: Store> Session<S> {
     fn submit(&mut self, alloc: Global, line: u64, id: TxnId, ops: Ops) -> Result<Vec<u8>, Fault>
         ensures done { IsTrue S.tells → OnOk result
             (Does (statement.Submit id ops) (progress (S.content self.old.store) self.old.batch self.old.begun)
-                (progress (S.content self.new.store) self.new.batch self.new.begun)) }
+            (progress (S.content self.new.store) self.new.batch self.new.begun)) }
         ensures refused { IsTrue S.tells → IfErr result (λ fault. IsOfLine fault →
             is_allowed (progress (S.content self.old.store) self.old.batch self.old.begun) (statement.Submit id ops) ≡ false) }
         ensures text { IfErr result (λ fault. IsOfLine fault → fault ≡ not_built line) }
+        ensures kind { IfErr result IsOfWork }
         ensures kept { self.new.was_empty ≡ self.old.was_empty }
         ensures calls { CallsGoOn S.tells S.content S.place S.calls S.faults self.old.store self.new.store }
         ensures fault { IsErrOf result Fault.Store → Rose (S.faults self.old.store) (S.faults self.new.store) }
@@ -122,9 +126,10 @@ impl<S: Store> Session<S> {
     fn go(&mut self, alloc: Global, line: u64) -> Result<Vec<u8>, Fault>
         ensures done { OnOk result
             (RunsBatch (progress (S.content self.old.store) self.old.batch self.old.begun)
-                (progress (S.content self.new.store) self.new.batch self.new.begun)) }
+            (progress (S.content self.new.store) self.new.batch self.new.begun)) }
         ensures never { IsTrue self.old.was_empty → IfErr result IsOfRun }
         ensures text { IfErr result (λ fault. IsOfLine fault → fault ≡ not_built line) }
+        ensures kind { IfErr result IsOfWork }
         ensures kept { self.new.was_empty ≡ self.old.was_empty }
         ensures calls { CallsGoOn S.tells S.content S.place S.calls S.faults self.old.store self.new.store }
         ensures fault { IsErrOf result Fault.Store → Rose (S.faults self.old.store) (S.faults self.new.store) }
@@ -132,7 +137,12 @@ impl<S: Store> Session<S> {
         if !self.was_empty {
             return Err(unbuilt(alloc, line));
         }
-        let lines = run_batch(alloc, &mut self.store, &mut self.runs, self.batch.as_slice())?;
+        let lines = run_batch(
+            alloc,
+            &mut self.store,
+            &mut self.runs,
+            self.batch.as_slice(),
+        )?;
         self.batch.clear();
         self.begun = true;
         Ok(lines)
@@ -141,9 +151,10 @@ impl<S: Store> Session<S> {
     fn show(&mut self, alloc: Global, line: u64) -> Result<Vec<u8>, Fault>
         ensures done { IsTrue S.tells → IsTrue self.old.was_empty → OnOk result
             (Does statement.Show (progress (S.content self.old.store) self.old.batch self.old.begun)
-                (progress (S.content self.new.store) self.new.batch self.new.begun)) }
+            (progress (S.content self.new.store) self.new.batch self.new.begun)) }
         ensures never { IsTrue self.old.was_empty → IfErr result IsOfRun }
         ensures text { IfErr result (λ fault. IsOfLine fault → fault ≡ not_built line) }
+        ensures kind { IfErr result IsOfWork }
         ensures kept { self.new.was_empty ≡ self.old.was_empty }
         ensures calls { CallsGoOn S.tells S.content S.place S.calls S.faults self.old.store self.new.store }
         ensures fault { IsErrOf result Fault.Store → Rose (S.faults self.old.store) (S.faults self.new.store) }
@@ -159,11 +170,7 @@ impl<S: Store> Session<S> {
 }
 
 /// Prints the documents of the store, in the order of their keys.
-fn push_documents<S: Store>(
-    alloc: Global,
-    store: &mut S,
-    lines: &mut Vec<u8>,
-) -> Result<(), Fault>
+fn push_documents<S: Store>(alloc: Global, store: &mut S, lines: &mut Vec<u8>) -> Result<(), Fault>
     ensures same { IsTrue S.tells → S.content store.new ≡ S.content store.old }
     ensures kind { IfErr result IsOfRun }
     ensures calls { CallsGoOn S.tells S.content S.place S.calls S.faults store.old store.new }
@@ -182,6 +189,7 @@ fn push_documents<S: Store>(
 /// The refusal of a line whose form isn't built.
 fn unbuilt(alloc: Global, line: u64) -> Fault
     ensures text { IsOfLine result → result ≡ not_built line }
+    ensures kind { IsOfWork result }
     ensures other { result ≢ Fault.Store }
 {
     refused(alloc, line, "not built yet")

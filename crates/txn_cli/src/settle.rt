@@ -81,7 +81,15 @@ fn advance<S: Store>(
             Ok(Stage::Prepare { nonce })
         }
         Stage::Prepare { nonce } => {
-            steps::move_record(alloc, store, id, State::Preparing, State::Prepared, Some(nonce), None)?;
+            steps::move_record(
+                alloc,
+                store,
+                id,
+                State::Preparing,
+                State::Prepared,
+                Some(nonce),
+                None,
+            )?;
             Ok(Stage::Look { nonce })
         }
         Stage::Look { nonce } => look(alloc, store, txn, op, nonce),
@@ -95,11 +103,27 @@ fn advance<S: Store>(
             Ok(Stage::Finish)
         }
         Stage::Finish => {
-            steps::move_record(alloc, store, id, State::Applying, State::Applied, None, None)?;
+            steps::move_record(
+                alloc,
+                store,
+                id,
+                State::Applying,
+                State::Applied,
+                None,
+                None,
+            )?;
             Ok(Stage::Settled(Outcome::Applied))
         }
         Stage::Abort => {
-            steps::move_record(alloc, store, id, State::Aborting, State::Aborted, None, None)?;
+            steps::move_record(
+                alloc,
+                store,
+                id,
+                State::Aborting,
+                State::Aborted,
+                None,
+                None,
+            )?;
             Ok(Stage::Settled(Outcome::Aborted))
         }
         Stage::Settled(_) => unreachable!(),

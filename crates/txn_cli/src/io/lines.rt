@@ -1,4 +1,4 @@
-ghost use Rattle.std.specs.Prelude.{◌≡◌, ◌<◌, ◌≤◌, ◌+◌, ◌++◌, ◌==◌, [], ℕ, List, length, Option, option_map, IfOk, IfErr, OnOk, IsTrue, ◌≢◌, true, false};
+ghost use Rattle.std.specs.Prelude.{◌≡◌, ◌<◌, ◌≤◌, ◌+◌, ◌++◌, ◌==◌, [], ℕ, List, length, Option, option_map, IfOk, IfErr, IsSome, OnOk, IsTrue, ◌≢◌, true, false};
 ghost use Rattle.std.specs.List.{position};
 ghost use Rattle.txn_cli.specs.Faults.{Rose};
 ghost use Rattle.txn_cli.specs.declared.io.lines.LineFault.TheVariants.{OutOfMemory};
@@ -87,6 +87,8 @@ impl Lines {
         ensures goes_on { OnOk result ((self.old.fault ≡ None) × (self.new.fault ≡ None)) }
         ensures stands { IfErr result (λ fault. self.new.fault ≡ Some fault) }
         ensures faults { S.faults source.old ≤ S.faults source.new }
+        ensures more { IfOk result (λ line. IsSome line → self.old.taken < self.new.taken) }
+        ensures within { self.new.taken ≤ 268435456 }
     {
         if let Some(fault) = self.fault {
             return Err(fault);
@@ -114,6 +116,7 @@ fn read_line<S: Source>(
     ensures read_fault { result ≡ Err LineFault.ReadFault → Rose (S.faults source.old) (S.faults source.new) }
     ensures within { taken.new ≤ 268435456 }
     ensures faults { S.faults source.old ≤ S.faults source.new }
+    ensures more { IfOk result (λ line. IsSome line → taken.old < taken.new) }
 {
     let mut line = Vec::new(alloc);
     loop {

@@ -1,0 +1,107 @@
+//! The worked scripts, and the outside failing at each of its calls.
+use crate::command::command;
+use crate::io::{MemorySink, MemorySource};
+use std::alloc::Global;
+use std::test::Fail;
+use store_memory::MemoryStore;
+
+const ROOM: u64 = 4096;
+
+const USAGE: &str =
+    "usage: txn run [--db FILE] [--log FILE] | txn race [--log FILE] | txn grind N [--db FILE] [--log FILE]\n";
+
+const SCRIPT: &str = r#"{"doc":["k","a"],"body":{"v":0}}
+{"txn":"000000000000000000000001","ops":[{"c":"k","d":"a","u":{"$set":{"v":1}}}]}
+{"go":{}}
+{"show":true}
+"#;
+
+const OUTPUT: &str = r#"000000000000000000000001 applied
+"k" "a" {"v":1}
+"#;
+
+/// What a call wrote, and how it ended.
+#[derive(Drop)]
+struct Played {
+    status: u8,
+    written: Vec<u8>,
+}
+
+/// The numbers of the calls of the input, the output and the store that fail; 0 is no call's number.
+#[derive(Clone, Copy)]
+struct Fails {
+    input: u64,
+    output: u64,
+    store: u64,
+}
+
+const NONE: Fails = Fails {
+    input: 0,
+    output: 0,
+    store: 0,
+};
+
+fn play(alloc: Global, word: &str, script: &str, fails: Fails) -> Result<Played, Fail> {
+    let words = vec![in alloc; String::from_str(alloc, word)?]?;
+    let bytes = Vec::from_slice(alloc, script.as_bytes())?;
+    let mut input = MemorySource::new(bytes, vec![in alloc; fails.input]?);
+    let mut output = MemorySink::new(alloc, ROOM, vec![in alloc; fails.output]?)?;
+    let store = MemoryStore::new(alloc, vec![in alloc; fails.store]?)?;
+    let done = command(alloc, words.as_slice(), &mut input, &mut output, store);
+    let written = Vec::from_slice(alloc, output.written())?;
+    Ok(Played {
+        status: done.status,
+        written,
+    })
+}
+
+#[test]
+fn worked_scripts(rt: HostRuntime) -> Result<(), Fail> {
+    let alloc = rt.alloc();
+    for (word, script, status, text) in [
+        ("run", SCRIPT, 0, OUTPUT),
+        ("run", "", 0, ""),
+        ("fly", SCRIPT, 2, USAGE),
+        ("run", "{\"audit\":true}\n", 3, "line 1: not built yet\n"),
+        ("run", "# a comment\n\n{\"sho", 3, "line 3: not built yet\n"),
+    ] {
+        let played = play(alloc, word, script, NONE)?;
+        assert_eq!(rt; played.status, status, "{script}");
+        assert_eq!(rt; played.written.as_slice(), text.as_bytes(), "{script}");
+    }
+    Ok(())
+}
+
+/// Whichever call of the store fails, the call ends with status 5; a number that isn't reached
+/// changes nothing.
+#[test]
+fn failing_stores(rt: HostRuntime) -> Result<(), Fail> {
+    let alloc = rt.alloc();
+    for call in 1..30u64 {
+        let played = play(
+            alloc,
+            "run",
+            SCRIPT,
+            Fails {
+                store: call,
+                ..NONE
+            },
+        )?;
+        let last = played.written.as_slice().ends_with(b"store fault\n");
+        assert_eq!(rt; last, played.status == 5, "{call}");
+        assert_eq!(rt; played.status == 0, call > 16, "{call}");
+    }
+    Ok(())
+}
+
+#[test]
+fn failing_input_and_output(rt: HostRuntime) -> Result<(), Fail> {
+    let alloc = rt.alloc();
+    let unread = play(alloc, "run", SCRIPT, Fails { input: 1, ..NONE })?;
+    assert_eq!(rt; unread.status, 6);
+    assert_eq!(rt; unread.written.as_slice(), b"input fault\n".as_slice());
+    let unwritten = play(alloc, "run", SCRIPT, Fails { output: 1, ..NONE })?;
+    assert_eq!(rt; unwritten.status, 7);
+    assert_eq!(rt; unwritten.written.as_slice(), b"".as_slice());
+    Ok(())
+}
