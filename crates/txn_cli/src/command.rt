@@ -40,7 +40,6 @@ pub fn command<S: Store, I: Source, O: Sink>(
     ensures usage { is_grammar (map string_bytes words.now) ≡ false →
         (result.status ≡ 2) ⊎ (result.status ≡ 7) ⊎ (result.status ≡ 8) }
 
-
     // 5, 6 and 7 come only where the store, the input or the output counted a fault in this call.
     ensures store { result.fault ≡ Some Fault.Store → Rose (S.faults store) (S.faults result.store) }
     ensures input { result.fault ≡ Some Fault.Input → Rose (I.faults input.old) (I.faults input.new) }

@@ -37,8 +37,9 @@ fn main(rt: HostRuntime) -> ExitCode {
     let alloc = rt.alloc();
     let mut words = Vec::new(alloc);
     match env::args(&rt) {
+        // The first is the program's own name.
         Ok(args) => {
-            for word in args {
+            for word in args.skip(1) {
                 if words.push(word).is_err() {
                     return ExitCode::from(NO_MEMORY);
                 }
