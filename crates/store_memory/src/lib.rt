@@ -5,5 +5,7 @@ mod log;
 mod memory;
 mod places;
 mod store;
+#[cfg(test)]
+mod tests;
 
 pub use memory::MemoryStore;

@@ -253,11 +253,7 @@ fn write(
 {
     let answer = after.copy(alloc)?;
     let cell = after.copy(alloc)?;
-    let change = Logged {
-        at: call,
-        name: name.copy(alloc)?,
-        cell: Some(cell),
-    };
+    let change = logged_change(alloc, call, name, Some(cell))?;
     log.reserve(1)?;
     places::put(alloc, cells, name, after)?;
     note(log, change);
@@ -279,15 +275,28 @@ fn erase(
     ensures cells_err { OnErr result (cells.new.items ≡ cells.old.items) }
     ensures log_err { OnErr result (log.new.items ≡ log.old.items) }
 {
-    let change = Logged {
-        at: call,
-        name: name.copy(alloc)?,
-        cell: None,
-    };
+    let change = logged_change(alloc, call, name, None)?;
     log.reserve(1)?;
     note(log, change);
     places::take_out(cells, name);
     Ok(())
+}
+
+/// A change of a cell in a call.
+fn logged_change(
+    alloc: Global,
+    call: u64,
+    name: &Name,
+    cell: Option<Cell>,
+) -> Result<Logged, OutOfMemory>
+    ensures { IfOk result (λ change. change ≡ record { at = call; name = name.now; cell = cell }) }
+{
+    let name = name.copy(alloc)?;
+    Ok(Logged {
+        at: call,
+        name,
+        cell,
+    })
 }
 
 /// Adds a change to a log that has room for it.

@@ -1,12 +1,12 @@
-ghost use Rattle.std.specs.Prelude.{◌≡◌, ◌↔◌, true, IsTrue, IfOk, IfSome, IsErrOf, OnOk, OnErr, is_some, option_map, refl};
+ghost use Rattle.std.specs.Prelude.{◌≡◌, ◌↔◌, ◌+◌, [], true, IsTrue, IfOk, IfSome, IsErrOf, OnOk, OnErr, is_some, option_map, refl};
 ghost use Rattle.std.specs.Option.{option_copied};
 ghost use Rattle.std.specs.FinMap.{get};
 ghost use Rattle.store_trait.specs.Names.{may_stand};
 ghost use Rattle.store_trait.specs.Contents.{is_past, first_past, named};
 ghost use Rattle.store_trait.specs.Edits.{hit, edited, left};
 ghost use Rattle.store_trait.specs.Calls.{Reads, Edits as EditsCell, Lists, OneCall};
-ghost use Rattle.store_memory.specs.Told.{content_of, place_of, calls_of, faults_of, fails_next};
-ghost use Rattle.store_memory.specs.CallsMade.{Answered};
+ghost use Rattle.store_memory.specs.Told.{content_of, place_of, calls_of, faults_of, fails_next, logged};
+ghost use Rattle.store_memory.specs.CallsMade.{Answered, IsCall};
 
 use crate::memory::MemoryStore;
 use std::alloc::Global;
@@ -25,7 +25,8 @@ impl Store for MemoryStore {
 
     ghost answered = { Answered };
 
-    /// The cell under a name. The call fails exactly where its number is among those that fail.
+    /// The cell under a name. The call fails exactly where its number is among those that fail; one that
+    /// is refused for memory is not counted.
     fn read(&mut self, alloc: Global, name: &Name) -> Result<Option<Cell>, StoreError>
         ensures found { IfOk result (λ found. found ≡ get (content_of self.old) name.now) }
         ensures same { content_of self.new ≡ content_of self.old }
@@ -33,6 +34,7 @@ impl Store for MemoryStore {
         ensures call { OneCall true content_of place_of calls_of faults_of self.old self.new result StoreError.Failed }
         ensures answered { IfOk result (λ found. Answered self.old (Reads name.now found) self.new) }
         ensures failed { IsErrOf result StoreError.Failed ↔ IsTrue (fails_next self.old) }
+        ensures told { IsCall self.old self.new [] result }
     {
         self.find(alloc, name)
     }
@@ -50,12 +52,15 @@ impl Store for MemoryStore {
         ensures answered { IfOk result
             (λ done. Answered self.old (EditsCell name.now edit.now done.hit done.cell) self.new) }
         ensures failed { IsErrOf result StoreError.Failed ↔ IsTrue (fails_next self.old) }
+        ensures told { IsCall self.old self.new
+            (logged (self.old.calls + 1) name.now (hit edit.now name.now (get (content_of self.old) name.now)))
+            result }
     {
         self.make(alloc, name, edit)
     }
 
     /// The first cell past a name, or the first of all. The call fails exactly where its number is among
-    /// those that fail.
+    /// those that fail; one that is refused for memory is not counted.
     fn next(&mut self, alloc: Global, after: Option<&Name>) -> Result<Option<Named>, StoreError>
         ensures found { IfOk result
             (λ found. found ≡ option_map named (first_past (option_copied after.entry) (content_of self.old))) }
@@ -67,6 +72,7 @@ impl Store for MemoryStore {
         ensures answered { IfOk result
             (λ found. Answered self.old (Lists (option_copied after.entry) found) self.new) }
         ensures failed { IsErrOf result StoreError.Failed ↔ IsTrue (fails_next self.old) }
+        ensures told { IsCall self.old self.new [] result }
     {
         self.find_past(alloc, after)
     }
