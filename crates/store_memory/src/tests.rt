@@ -72,9 +72,13 @@ fn draw(alloc: Global, store: &mut MemoryStore) -> Result<Option<u32>, StoreErro
     Ok(counter_in(done.cell))
 }
 
+fn only(alloc: Global, failing: u64) -> Result<Vec<u64>, OutOfMemory> {
+    Ok(vec![in alloc; failing]?)
+}
+
 /// The counter that is read after four calls, each of which draws a nonce or fails.
 fn drawn(alloc: Global, failing: u64) -> Result<Option<u32>, StoreError> {
-    let mut store = MemoryStore::new(alloc, vec![in alloc; failing]?)?;
+    let mut store = MemoryStore::new(alloc, only(alloc, failing)?)?;
     for call in 1..5 {
         let failed = draw(alloc, &mut store).is_err();
         if failed != (call == failing) {
