@@ -84,7 +84,7 @@ look content = record {
   record_at = record_at content;
   queue_at = λ key. owner_queue (doc_at content key) (stash_at content key);
   held_at = λ key. owner_held (doc_at content key) (stash_at content key);
-  counter = counter content
+  counter = counter content;
 }
 
 -- the epoch of a key's owner

@@ -1,0 +1,128 @@
+-- A document that owns its key, and goes on owning it at its next number.
+use Rattle.std.proofs.Common.{◌≡◌, ℕ, ℤ, pos, negsuc, ◌+ℤ◌, ◌<◌, ◌≤◌, Bool, true, false, cond, not, Option, Some, None, [], sym, ap, ◌∙◌, refl, unsigned_abs, nat_lt, arith, true≢false}
+use Rattle.std.proofs.lemmas.Bool.{and_parts}
+use Rattle.std.proofs.lemmas.Bool.Decides.{nat_tests}
+use Rattle.std.proofs.lemmas.Option.{same_Some}
+use Rattle.std.specs.Prelude.{option_and_then}
+use Rattle.std.specs.FinMap.{get}
+use Rattle.txn_record.specs.Revnos.{is_present, is_within}
+use Rattle.txn_record.specs.declared.key.Key.{Key}
+use Rattle.store_trait.specs.Cells.{as_doc, as_stash}
+use Rattle.store_trait.specs.Contents.{Content}
+use Rattle.store_trait.specs.Owners.{owner_of, epoch}
+use Rattle.store_trait.specs.Soundness.{IsSound}
+use Rattle.store_trait.specs.View.{Body, Number, look, doc_at, stash_at, owner_held, owner_queue, by_side, doc_held, doc_queue, stash_held, stash_queue, held_number}
+use Rattle.store_trait.specs.declared.cell.Cell.{Cell}
+use Rattle.store_trait.specs.declared.cell.Cell.TheVariants as cell
+use Rattle.store_trait.specs.declared.cell.DocCell.{DocCell}
+use Rattle.store_trait.specs.declared.cell.StashCell.{StashCell}
+use Rattle.store_trait.specs.declared.name.Name.TheVariants as name
+use Rattle.store_trait.specs.declared.side.Side.{Side}
+use Rattle.store_trait.specs.declared.side.Side.TheVariants as side
+use Rattle.store_laws.proofs.Bodies.{body_in}
+
+-- numbers
+
+pub present_number : (n : ℤ) → is_present n ≡ true → (k : ℕ) × (n ≡ pos k)
+present_number (pos k) e = (k, refl)
+present_number (negsuc k) e = absurd (true≢false (sym e))
+
+pub next_present : (n : ℤ) → is_present n ≡ true → is_present (n +ℤ pos 1) ≡ true
+next_present (pos k) e = grind (arith, nat_tests)
+next_present (negsuc k) e = absurd (true≢false (sym e))
+
+pub next_above : (n : ℤ) → is_present n ≡ true → unsigned_abs n < unsigned_abs (n +ℤ pos 1)
+next_above (pos k) e = omega arith
+next_above (negsuc k) e = absurd (true≢false (sym e))
+
+-- a cell that was found is under its name
+
+doc_found : (found : Option Cell) (doc : DocCell) → option_and_then as_doc found ≡ Some doc → found ≡ Some (cell.Doc doc)
+doc_found None doc e = cc
+doc_found (Some (cell.Doc other)) doc e = ap (λ (x : DocCell). Some (cell.Doc x)) (same_Some other doc e)
+doc_found (Some (cell.Record _)) doc e = cc
+doc_found (Some (cell.Stash _)) doc e = cc
+doc_found (Some (cell.Nonce _)) doc e = cc
+
+pub doc_under : (c : Content) (key : Key) (doc : DocCell) → doc_at c key ≡ Some doc → get c (name.Doc key) ≡ Some (cell.Doc doc)
+unfolding doc_at
+doc_under c key doc found = doc_found (get c (name.Doc key)) doc found
+
+stash_found : (found : Option Cell) (stash : StashCell) → option_and_then as_stash found ≡ Some stash → found ≡ Some (cell.Stash stash)
+stash_found None stash e = cc
+stash_found (Some (cell.Stash other)) stash e = ap (λ (x : StashCell). Some (cell.Stash x)) (same_Some other stash e)
+stash_found (Some (cell.Record _)) stash e = cc
+stash_found (Some (cell.Doc _)) stash e = cc
+stash_found (Some (cell.Nonce _)) stash e = cc
+
+pub stash_under : (c : Content) (key : Key) (stash : StashCell) → stash_at c key ≡ Some stash → get c (name.Stash key) ≡ Some (cell.Stash stash)
+unfolding stash_at
+stash_under c key stash found = stash_found (get c (name.Stash key)) stash found
+
+-- the owner
+
+-- an owner at a number of 0 or more is the document, where entries stand below 0
+pub owner_present : (doc : DocCell) (stash : Option StashCell) → ((entry : StashCell) → stash ≡ Some entry → is_present entry.revno ≡ false)
+    → is_present (held_number (owner_held (Some doc) stash)) ≡ true → owner_of (Some doc) stash ≡ side.Document
+owner_present doc None below e = refl
+owner_present doc (Some entry) below e = by (nat_lt (epoch doc.revno) (epoch entry.revno)) e
+  where
+    by : (b : Bool) → is_present (held_number (by_side (cond b side.Stash side.Document) (Number (negsuc 0)) (doc_held (Some doc)) (stash_held (Some entry)))) ≡ true → cond b side.Stash side.Document ≡ side.Document
+    by true e = absurd (true≢false (sym e ∙ below entry refl))
+    by false e = refl
+
+-- with a greater number it goes on
+pub owner_grows : (doc later : DocCell) (stash : Option StashCell) → unsigned_abs doc.revno ≤ unsigned_abs later.revno → owner_of (Some doc) stash ≡ side.Document → owner_of (Some later) stash ≡ side.Document
+owner_grows doc later None le e = refl
+owner_grows doc later (Some entry) le e = by (nat_lt (unsigned_abs doc.revno) (unsigned_abs entry.revno)) (nat_lt (unsigned_abs later.revno) (unsigned_abs entry.revno)) refl refl e
+  where
+    by : (a b : Bool) → nat_lt (unsigned_abs doc.revno) (unsigned_abs entry.revno) ≡ a → nat_lt (unsigned_abs later.revno) (unsigned_abs entry.revno) ≡ b → cond a side.Stash side.Document ≡ side.Document → cond b side.Stash side.Document ≡ side.Document
+    by true b p q e = absurd (cc e)
+    by false false p q e = refl
+    by false true p q e = absurd (grind (arith, nat_tests))
+
+pub owned_held : (doc : DocCell) (stash : Option StashCell) → owner_of (Some doc) stash ≡ side.Document → owner_held (Some doc) stash ≡ Body doc.revno doc.body
+owned_held doc stash e = ap (λ (s : Side). by_side s (Number (negsuc 0)) (doc_held (Some doc)) (stash_held stash)) e
+
+pub owned_queue : (doc : DocCell) (stash : Option StashCell) → owner_of (Some doc) stash ≡ side.Document → owner_queue (Some doc) stash ≡ doc.queue
+owned_queue doc stash e = ap (λ (s : Side). by_side s [] (doc_queue (Some doc)) (stash_queue stash)) e
+
+-- in a sound content entries stand below 0
+
+not_true : (b : Bool) → not b ≡ true → b ≡ false
+not_true true e = absurd (true≢false (sym e))
+not_true false e = refl
+
+pub stash_below : (c : Content) → IsSound c → (key : Key) (entry : StashCell) → stash_at c key ≡ Some entry → is_present entry.revno ≡ false
+stash_below c s key entry there = not_true _ (and_parts (not (is_present entry.revno)) (is_within entry.revno) (s.numbers (name.Stash key) (cell.Stash entry) (stash_under c key entry there))).0
+
+-- an owner at a number of 0 or more is a document at that number
+doc_at_number : (doc : Option DocCell) (stash : Option StashCell) → ((entry : StashCell) → stash ≡ Some entry → is_present entry.revno ≡ false)
+    → is_present (held_number (owner_held doc stash)) ≡ true → (d : DocCell) × (doc ≡ Some d) × (held_number (owner_held doc stash) ≡ d.revno)
+doc_at_number None None below e = absurd (true≢false (sym e))
+doc_at_number None (Some entry) below e = absurd (true≢false (sym e ∙ below entry refl))
+doc_at_number (Some d) stash below e = (d, refl, ap held_number (owned_held d stash (owner_present d stash below e)))
+
+pub finds_doc : (c : Content) → IsSound c → (key : Key) → is_present (held_number ((look c).held_at key)) ≡ true → (d : DocCell) × (doc_at c key ≡ Some d) × (held_number ((look c).held_at key) ≡ d.revno)
+unfolding look
+finds_doc c s key e = doc_at_number (doc_at c key) (stash_at c key) (stash_below c s key) e
+
+-- an owner below 0 holds no body
+body_at_number : (doc : Option DocCell) (stash : Option StashCell) → ((d : DocCell) → doc ≡ Some d → is_present d.revno ≡ true)
+    → is_present (held_number (owner_held doc stash)) ≡ false → body_in (owner_held doc stash) ≡ None
+body_at_number None None above e = refl
+body_at_number None (Some entry) above e = refl
+body_at_number (Some d) stash above e = by (owner_of (Some d) stash) e
+  where
+    by : (side : Side) → is_present (held_number (by_side side (Number (negsuc 0)) (doc_held (Some d)) (stash_held stash))) ≡ false → body_in (by_side side (Number (negsuc 0)) (doc_held (Some d)) (stash_held stash)) ≡ None
+    by side.Neither e = refl
+    by side.Document e = absurd (true≢false (sym (above d refl) ∙ e))
+    by side.Stash e = entry_body stash
+      where
+        entry_body : (stash : Option StashCell) → body_in (stash_held stash) ≡ None
+        entry_body None = refl
+        entry_body (Some entry) = refl
+
+pub no_body : (c : Content) → IsSound c → (key : Key) → is_present (held_number ((look c).held_at key)) ≡ false → body_in ((look c).held_at key) ≡ None
+unfolding look
+no_body c s key e = body_at_number (doc_at c key) (stash_at c key) (λ d found. (and_parts (is_present d.revno) (is_within d.revno) (s.numbers (name.Doc key) (cell.Doc d) (doc_under c key d found))).0) e

@@ -1,0 +1,82 @@
+-- Soundness put together from its parts, and the chains of applying records where what is held stays.
+use Rattle.std.proofs.Common.{◌≡◌, ◌<◌, true, Some, [], IfSome, IsTrue, unwrap_or, sym, ◌∙◌, subst}
+use Rattle.std.proofs.lemmas.Option.{same_Some}
+use Rattle.std.specs.FinMap.{insert}
+use Rattle.txn_record.specs.Documents.{changes_fit}
+use Rattle.txn_record.specs.Revnos.{is_on_chain}
+use Rattle.txn_record.specs.declared.id.TxnId.{TxnId}
+use Rattle.txn_record.specs.declared.record.Record.{Record}
+use Rattle.txn_record.specs.declared.state.State.TheVariants as state
+use Rattle.store_trait.specs.Names.{same_state, may_stand}
+use Rattle.store_trait.specs.Contents.{Content}
+use Rattle.store_trait.specs.View.{View, Held, look, record_at, counter, held_number}
+use Rattle.store_trait.specs.Soundness.{IsSound, StandsOnChain, PendingFits, is_numbered}
+use Rattle.store_trait.specs.declared.cell.Cell.TheVariants as cell
+use Rattle.store_trait.specs.declared.name.Name.TheVariants as name
+use Rattle.store_laws.proofs.Shapes.{SameHeld, ChangesRecord}
+use Rattle.store_laws.proofs.Orderly.{IsOrderly}
+use Rattle.store_laws.proofs.Changes.{IsOrderlyStep}
+use Rattle.store_laws.proofs.Moves.{each_record, put_here}
+use Rattle.store_laws.proofs.Looks.{record_looks}
+use Rattle.store_laws.proofs.CellRules.{HasSoundCells, sound_cells, cells_put_record}
+use Rattle.store_laws.proofs.Meanings.{pending_of-same, bodies-same}
+
+-- the rules on what an applying record finds and has still to do
+pub record HasSoundChains (c : Content) : Type 0 where
+  pub on_chain : (id : TxnId) (rec : Record) → record_at c id ≡ Some rec → IsTrue (same_state state.Applying rec.state) → StandsOnChain (look c) rec
+  pub fits : (id : TxnId) (rec : Record) → record_at c id ≡ Some rec → IsTrue (same_state state.Applying rec.state) → PendingFits c rec
+
+pub sound_chains : (c : Content) → IsSound c → HasSoundChains c
+sound_chains c s = record { on_chain = s.on_chain; fits = s.fits }
+
+pub sound_from : (c : Content) → HasSoundCells c → IsOrderly (look c) → HasSoundChains c → IsSound c
+unfolding look
+sound_from c cells o chains = record {
+  kinds = cells.kinds;
+  numbers = cells.numbers;
+  doc_tokens = cells.doc_tokens;
+  stash_tokens = cells.stash_tokens;
+  doc_nonces = cells.doc_nonces;
+  stash_nonces = cells.stash_nonces;
+  record_nonces = cells.record_nonces;
+  queued = o.queued;
+  ready = o.ready;
+  sealed = o.sealed;
+  on_chain = chains.on_chain;
+  fits = chains.fits;
+}
+
+-- where what is held stays
+
+chain_same : {old new : View} (rec : Record) → SameHeld old new → StandsOnChain old rec → StandsOnChain new rec
+chain_same rec same h = record { on_chain = λ key on. subst (λ (held : Held). is_on_chain key (held_number held) rec.ops (unwrap_or rec.revnos []) ≡ true) (sym (same.held key)) (h.on_chain key on) }
+
+fits_same : (c d : Content) (rec : Record) → SameHeld (look c) (look d) → PendingFits c rec → PendingFits d rec
+fits_same c d rec same h = (λ i. changes_fit (pending_of-same (look c) (look d) same rec i) (bodies-same c d same i)) ∙ h
+
+pub chains_same : (c d : Content) → HasSoundChains c → ((id : TxnId) → record_at d id ≡ record_at c id) → SameHeld (look c) (look d) → HasSoundChains d
+chains_same c d s records same = record {
+  on_chain = λ id rec there applies. chain_same rec same (s.on_chain id rec (sym (records id) ∙ there) applies);
+  fits = λ id rec there applies. fits_same c d rec same (s.fits id rec (sym (records id) ∙ there) applies);
+}
+
+-- A record is put, which, if it is applying, stands on its chain, with what it has to do fitting.
+pub sound_put_record : (c : Content) (id : TxnId) (rec : Record) → let d = insert c (name.Record id) (cell.Record rec) in IsSound c → IsOrderlyStep (look c) (look d) → may_stand (name.Record id) (cell.Record rec) ≡ true → is_numbered (cell.Record rec) ≡ true
+    → IfSome rec.nonce (λ nonce. nonce < counter c) → (IsTrue (same_state state.Applying rec.state) → StandsOnChain (look c) rec × PendingFits c rec) → IsSound d
+unfolding look
+sound_put_record c id rec s step stands numbered below chain =
+    sound_from d (cells_put_record c id rec (sound_cells c s) step.later stands numbered below) step.orderly (record {
+      on_chain = λ i r there applies. (each i r there applies).0;
+      fits = λ i r there applies. (each i r there applies).1;
+    })
+  where
+    d : Content
+    d = insert c (name.Record id) (cell.Record rec)
+
+    change : ChangesRecord (look c) (look d) id rec
+    change = record_looks c id rec
+
+    each : (i : TxnId) (r : Record) → record_at d i ≡ Some r → IsTrue (same_state state.Applying r.state) → StandsOnChain (look d) r × PendingFits d r
+    each = each_record change.puts (λ i. (r : Record) → record_at d i ≡ Some r → IsTrue (same_state state.Applying r.state) → StandsOnChain (look d) r × PendingFits d r)
+        (λ r there applies. subst (λ (r : Record). IsTrue (same_state state.Applying r.state) → StandsOnChain (look d) r × PendingFits d r) (same_Some rec r (sym (put_here id rec change.puts) ∙ there)) (λ applies. (chain_same rec change.held (chain applies).0, fits_same c d rec change.held (chain applies).1)) applies)
+        (λ i same r there applies. (chain_same r change.held (s.on_chain i r (sym same ∙ there) applies), fits_same c d r change.held (s.fits i r (sym same ∙ there) applies)))

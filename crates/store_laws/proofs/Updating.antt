@@ -1,0 +1,240 @@
+-- An applying record's update of its document: the meaning stays, and nothing is left to do there.
+use Rattle.std.proofs.Common.{◌≡◌, ◌≢◌, ℕ, ℤ, pos, ◌+ℤ◌, ◌<◌, ◌≤◌, le_of_lt, Bool, true, false, ◌&&◌, Option, Some, IsTrue, unwrap_or, List, [], sym, ap, ◌∙◌, refl, subst, unsigned_abs, true≢false, if◌then◌else◌}
+use Rattle.std.proofs.lemmas.Bool.{and_parts}
+use Rattle.std.proofs.lemmas.Option.{same_Some}
+use Rattle.std.specs.Cmp.{Equal-is}
+use Rattle.std.specs.Prelude.{option_and_then, option_map}
+use Rattle.std.specs.FinMap.{get}
+use Rattle.std.specs.Ordering.{is_eq}
+use Rattle.doc_value.specs.declared.value.Value.{Value}
+use Rattle.txn_record.proofs.KeyOrder.{id_cmp_total, id_cmp-IsAntisymmetric}
+use Rattle.std.proofs.lemmas.Cmp.{tied_itself}
+use Rattle.txn_record.specs.Documents.{changes_fit, body_after, effect_of}
+use Rattle.txn_record.specs.Keys.{id_cmp}
+use Rattle.txn_record.specs.Revnos.{same_key, is_present, is_within, number_after, is_on_chain, stays_within, follows}
+use Rattle.txn_record.specs.Updates.{updated}
+use Rattle.txn_record.specs.declared.id.TxnId.{TxnId}
+use Rattle.txn_record.specs.declared.key.Key.{Key}
+use Rattle.txn_record.specs.declared.op.Change.{Change}
+use Rattle.txn_record.specs.declared.op.Op.{Op}
+use Rattle.txn_record.specs.declared.record.Record.{Record}
+use Rattle.txn_record.specs.declared.state.State.TheVariants as state
+use Rattle.store_trait.specs.Cells.{as_record}
+use Rattle.store_trait.specs.Contents.{Content}
+use Rattle.store_trait.specs.Meaning.{bodies, pending_of, not_done, records}
+use Rattle.store_trait.specs.Names.{same_state}
+use Rattle.store_trait.specs.Owners.{owner_of, epoch}
+use Rattle.store_trait.specs.Soundness.{IsSound, StandsOnChain, PendingFits}
+use Rattle.store_trait.specs.Steps.{IsQuiet}
+use Rattle.store_trait.specs.View.{Held, Body, look, record_at, doc_at, stash_at, applying, IsOn, HasKey, held_number, owner_held, owner_queue}
+use Rattle.store_trait.specs.declared.cell.Cell.TheVariants as cell
+use Rattle.store_trait.specs.declared.cell.DocCell.{DocCell}
+use Rattle.store_trait.specs.declared.name.Name.TheVariants as name
+use Rattle.store_trait.specs.declared.side.Side.TheVariants as side
+use Rattle.store_laws.specs.Chains.{AppliesUpdate}
+use Rattle.store_laws.proofs.Bodies.{body_in, get-bodies}
+use Rattle.store_laws.proofs.CellRules.{HasSoundCells, sound_cells, cells_put_doc}
+use Rattle.store_laws.proofs.Changes.{IsOrderlyStep}
+use Rattle.store_laws.proofs.Decided.{decided_by-same}
+use Rattle.store_laws.proofs.Done.{done_put_doc}
+use Rattle.store_trait.specs.Done.{progress, progress_of}
+use Rattle.store_laws.proofs.Effects.{meaning-updated}
+use Rattle.store_laws.proofs.Exclusive.{one_applying}
+use Rattle.store_laws.proofs.Fitting.{changes_fit-agree, taken_fits}
+use Rattle.store_laws.proofs.Inherits.{at_on, at_leaves, at_within, chain_has}
+use Rattle.store_laws.proofs.Taken.{Taken, taken, after_present, present_on, first_present}
+use Rattle.txn_record.proofs.DocumentLaws.{get-effect_of_here, get-effect_of_other}
+use Rattle.store_laws.proofs.Idle.{OnlyApplies, on_pending, pending_of-keys, pending_of-applying}
+use Rattle.store_laws.proofs.JoinsOfRecords.{stored_numbers}
+use Rattle.store_laws.proofs.Lookups
+use Rattle.store_laws.proofs.Lost.{lost_same}
+use Rattle.store_laws.proofs.Looks.{put, read_put, doc_held_elsewhere, doc_writes}
+use Rattle.store_laws.proofs.Orderly.{orderly}
+use Rattle.store_laws.proofs.Owning.{next_present, next_above, doc_under, stash_below, owner_present, owner_grows, owned_held, owned_queue}
+use Rattle.store_laws.proofs.Records.{records-put_other}
+use Rattle.store_laws.proofs.Runs.{same_key-itself, same_key-equal, same_key-other}
+use Rattle.store_laws.proofs.Shapes.{ChangesHeld}
+use Rattle.store_laws.proofs.SoundParts.{HasSoundChains, sound_from}
+use Rattle.store_laws.proofs.Views.{applying_at}
+use Rattle.store_laws.proofs.Writes.{write_step}
+
+module _ (c : Content) (s : IsSound c) (id : TxnId) (rec : Record) (op : Op) (revno : ℤ) (update : Value) (u : AppliesUpdate c id rec op revno update) where
+  is_applying : applying (look c) id ≡ true
+  unfolding look
+  is_applying = applying_at (look c) id rec u.there ∙ ap (same_state state.Applying) u.applies
+
+  on_key : IsOn op.key rec.ops
+  on_key = at_on op revno rec.ops u.numbers u.stands
+
+  has_key : HasKey (look c) id op.key
+  unfolding look
+  has_key = record { rec = rec; there = u.there; on = on_key }
+
+  only : OnlyApplies (look c) id op.key
+  only other applies has apart = one_applying (orderly c s) op.key other id has has_key applies is_applying apart
+
+  chain : (follows rec.ops u.numbers && stays_within rec.ops u.numbers) ≡ true
+  chain = sym (ap (λ (o : Option (List ℤ)). unwrap_or (option_map (λ (l : List ℤ). follows rec.ops l && stays_within rec.ops l) o) true) u.numbered) ∙ (and_parts _ _ (stored_numbers c id rec s u.there)).1
+
+  pub in_turn : follows rec.ops u.numbers ≡ true
+  in_turn = (and_parts (follows rec.ops u.numbers) (stays_within rec.ops u.numbers) chain).0
+
+  pub within_ends : (is_within revno ≡ true) × (is_within (number_after op.change revno) ≡ true)
+  within_ends = at_within op revno rec.ops u.numbers (and_parts (follows rec.ops u.numbers) (stays_within rec.ops u.numbers) chain).1 u.stands
+
+  -- where the operation finds its document, the owner stands at a number of 0 or more
+  pub owner_there : is_present revno ≡ true → is_present (held_number ((look c).held_at op.key)) ≡ true
+  owner_there present =
+      chain_has op.key (λ m. is_present m ≡ true) present_on (held_number ((look c).held_at op.key)) rec.ops u.numbers in_turn (first_present op revno rec.ops u.numbers in_turn u.stands present)
+      (sym (ap (λ (o : Option (List ℤ)). is_on_chain op.key (held_number ((look c).held_at op.key)) rec.ops (unwrap_or o [])) u.numbered)
+      ∙ (s.on_chain id rec u.there (ap (same_state state.Applying) u.applies)).on_chain op.key on_key)
+
+  module _ (doc : DocCell) (found : doc_at c op.key ≡ Some doc) (at : doc.revno ≡ revno) where
+    present : is_present doc.revno ≡ true
+    present = (and_parts (is_present doc.revno) (is_within doc.revno) (s.numbers (name.Doc op.key) (cell.Doc doc) (doc_under c op.key doc found))).0
+
+    pub revno_present : is_present revno ≡ true
+    revno_present = subst (λ (n : ℤ). is_present n ≡ true) at present
+
+    next_number : number_after op.change revno ≡ doc.revno +ℤ pos 1
+    next_number = after_present op.change revno revno_present ∙ ap (λ (n : ℤ). n +ℤ pos 1) (sym at)
+
+    pub owns : owner_of (Some doc) (stash_at c op.key) ≡ side.Document
+    unfolding look
+    owns =
+        owner_present doc (stash_at c op.key) (stash_below c s op.key)
+        (ap (λ (d : Option DocCell). is_present (held_number (owner_held d (stash_at c op.key)))) (sym found) ∙ owner_there revno_present)
+
+    pub held_now : (look c).held_at op.key ≡ Body doc.revno doc.body
+    unfolding look
+    held_now = ap (λ (d : Option DocCell). owner_held d (stash_at c op.key)) found ∙ owned_held doc (stash_at c op.key) owns
+
+    module _ (body : Value) (fit : updated update doc.body ≡ Some body) where
+      abbrev next : DocCell
+      next = record doc { body = body; revno = doc.revno +ℤ pos 1 }
+
+      owns_next : owner_of (Some next) (stash_at c op.key) ≡ side.Document
+      owns_next = owner_grows doc next (stash_at c op.key) (le_of_lt (next_above doc.revno present)) owns
+
+      held_next : (look (put c op.key next)).held_at op.key ≡ Body (doc.revno +ℤ pos 1) body
+      unfolding look
+      held_next =
+          read_put c op.key next owner_held op.key
+          ∙ ap (λ (b : Bool). if b then owner_held (Some next) (stash_at c op.key) else owner_held (doc_at c op.key) (stash_at c op.key)) (same_key-itself op.key)
+          ∙ owned_held next (stash_at c op.key) owns_next
+
+      -- the operation is done
+      pub past_now : unsigned_abs revno < progress (put c op.key next) op.key
+      past_now =
+          subst (λ (n : ℕ). unsigned_abs revno < n)
+          (sym (read_put c op.key next progress_of op.key ∙ ap (λ (b : Bool). if b then progress_of (Some next) (stash_at c op.key) else progress_of (doc_at c op.key) (stash_at c op.key)) (same_key-itself op.key)))
+          (subst (λ (n : ℤ). unsigned_abs n < unsigned_abs (doc.revno +ℤ pos 1)) at (next_above doc.revno present))
+
+      -- just this operation is no more to be done
+      took : Taken op (pending_of (look c) rec) (pending_of (look (put c op.key next)) rec)
+      took =
+          let d = put c op.key next in
+          subst (λ (l : List Op). Taken op l (pending_of (look d) rec)) (sym (pending_of-applying (look c) rec rec.ops u.numbers u.applies refl u.numbered))
+          (subst (Taken op (not_done (look c) rec.ops u.numbers)) (sym (pending_of-applying (look d) rec rec.ops u.numbers u.applies refl u.numbered))
+          (taken (look c) (look d) op.key revno revno_present
+          (ap (λ (h : Held). unsigned_abs (held_number h)) held_now ∙ ap unsigned_abs at)
+          (ap (λ (h : Held). unsigned_abs (held_number h)) held_next ∙ ap (λ (n : ℤ). unsigned_abs (n +ℤ pos 1)) at)
+          (doc_held_elsewhere c op.key next).held op refl rec.ops u.numbers in_turn u.stands))
+
+      change : ChangesHeld (look c) (look (put c op.key next)) op.key
+      change = doc_writes c op.key next (owned_queue next (stash_at c op.key) owns_next ∙ sym (ap (λ (d : Option DocCell). owner_queue d (stash_at c op.key)) found ∙ owned_queue doc (stash_at c op.key) owns))
+
+      step : IsOrderlyStep (look c) (look (put c op.key next))
+      step = write_step op.key id (orderly c s) change is_applying has_key
+
+      cells : HasSoundCells (put c op.key next)
+      cells = cells_put_doc c op.key next (sound_cells c s) step.later numbered (s.doc_tokens op.key doc found) (s.doc_nonces op.key doc found)
+        where
+          numbered : (is_present (doc.revno +ℤ pos 1) && is_within (doc.revno +ℤ pos 1)) ≡ true
+          numbered = λ i. next_present doc.revno present i && (ap is_within (sym next_number) ∙ within_ends.1) i
+
+      -- a record on other keys finds the same
+      same_there : (other : TxnId) (r : Record) → record_at c other ≡ Some r → IsTrue (same_state state.Applying r.state) → other ≢ id → (key : Key) → IsOn key r.ops → (look (put c op.key next)).held_at key ≡ (look c).held_at key
+      unfolding look
+      same_there other r there applies apart key on =
+          (doc_held_elsewhere c op.key next).held key (λ e. only other (applying_at (look c) other r there ∙ applies) (record { rec = r; there = there; on = subst (λ (k : Key). IsOn k r.ops) e on }) apart)
+
+      other_stands : (other : TxnId) (r : Record) → record_at c other ≡ Some r → IsTrue (same_state state.Applying r.state) → other ≢ id → StandsOnChain (look (put c op.key next)) r × PendingFits (put c op.key next) r
+      other_stands other r there applies apart =
+          let d = put c op.key next in
+          let same = same_there other r there applies apart in (
+            record { on_chain = λ key on. ap (λ (h : Held). is_on_chain key (held_number h) r.ops (unwrap_or r.revnos [])) (same key on) ∙ (s.on_chain other r there applies).on_chain key on },
+            ap (λ (ops : List Op). changes_fit ops (bodies d)) (pending_of-keys (look c) (look d) r same)
+                ∙ changes_fit-agree (pending_of (look c) r) (bodies d) (bodies c) (λ key on. get-bodies d key ∙ ap body_in (same key (on_pending (look c) key r on).1) ∙ sym (get-bodies c key))
+                ∙ s.fits other r there applies,
+          )
+
+      body_done : body_in ((look (put c op.key next)).held_at op.key) ≡ body_after op.change (body_in ((look c).held_at op.key))
+      body_done =
+          ap body_in held_next
+          ∙ sym (ap (λ (h : Held). body_after op.change (body_in h)) held_now ∙ ap (λ (ch : Change). body_after ch (Some doc.body)) u.change ∙ ap (λ (o : Option Value). Some (unwrap_or o doc.body)) fit)
+
+      -- the bodies are those after the operation
+      bodies_done : (key : Key) → get (bodies (put c op.key next)) key ≡ get (effect_of op (bodies c)) key
+      bodies_done key = by (same_key key op.key) refl
+        where
+          d : Content
+          d = put c op.key next
+
+          here : get (bodies d) op.key ≡ get (effect_of op (bodies c)) op.key
+          here = get-bodies d op.key ∙ body_done ∙ sym (get-effect_of_here op (bodies c) ∙ ap (body_after op.change) (get-bodies c op.key))
+
+          by : (b : Bool) → same_key key op.key ≡ b → get (bodies d) key ≡ get (effect_of op (bodies c)) key
+          by true e = subst (λ (k : Key). get (bodies d) k ≡ get (effect_of op (bodies c)) k) (sym (same_key-equal key op.key e)) here
+          by false e =
+              let apart = same_key-other key op.key e in
+              get-bodies d key ∙ ap body_in ((doc_held_elsewhere c op.key next).held key apart) ∙ sym (get-effect_of_other op (bodies c) key apart ∙ get-bodies c key)
+
+      own_stands : StandsOnChain (look (put c op.key next)) rec × PendingFits (put c op.key next) rec
+      own_stands = (
+        record { on_chain = λ key on. by key (same_key key op.key) refl on },
+        ap (λ (ops : List Op). changes_fit ops (bodies (put c op.key next))) took.after
+            ∙ taken_fits op took.pre took.post (bodies c) (bodies (put c op.key next)) took.away bodies_done
+            (sym (ap (λ (ops : List Op). changes_fit ops (bodies c)) took.before) ∙ s.fits id rec u.there (ap (same_state state.Applying) u.applies)),
+      )
+        where
+          here : is_on_chain op.key (held_number ((look (put c op.key next)).held_at op.key)) rec.ops (unwrap_or rec.revnos []) ≡ true
+          here =
+              (λ i. is_on_chain op.key ((ap held_number held_next ∙ sym next_number) i) rec.ops (unwrap_or (u.numbered i) []))
+              ∙ at_leaves op revno rec.ops u.numbers u.stands
+
+          by : (key : Key) (b : Bool) → same_key key op.key ≡ b → IsOn key rec.ops → is_on_chain key (held_number ((look (put c op.key next)).held_at key)) rec.ops (unwrap_or rec.revnos []) ≡ true
+          by key true e on = subst (λ (k : Key). is_on_chain k (held_number ((look (put c op.key next)).held_at k)) rec.ops (unwrap_or rec.revnos []) ≡ true) (sym (same_key-equal key op.key e)) here
+          by key false e on =
+              ap (λ (h : Held). is_on_chain key (held_number h) rec.ops (unwrap_or rec.revnos [])) ((doc_held_elsewhere c op.key next).held key (same_key-other key op.key e))
+              ∙ (s.on_chain id rec u.there (ap (same_state state.Applying) u.applies)).on_chain key on
+
+      chains : HasSoundChains (put c op.key next)
+      chains = record { on_chain = λ i r there applies. (each i r there applies).0; fits = λ i r there applies. (each i r there applies).1 }
+        where
+          each : (i : TxnId) (r : Record) → record_at (put c op.key next) i ≡ Some r → IsTrue (same_state state.Applying r.state) → StandsOnChain (look (put c op.key next)) r × PendingFits (put c op.key next) r
+          each i r there applies = by (is_eq (id_cmp i id)) refl
+            where
+              before : record_at c i ≡ Some r
+              before = sym (Lookups.record_at-put_doc c (cell.Doc next) op.key i) ∙ there
+
+              by : (b : Bool) → is_eq (id_cmp i id) ≡ b → StandsOnChain (look (put c op.key next)) r × PendingFits (put c op.key next) r
+              by true e =
+                  let same = id_cmp-IsAntisymmetric i id ((Equal-is (id_cmp i id)).0 e) in
+                  let own : rec ≡ r = same_Some rec r (sym u.there ∙ ap (record_at c) (sym same) ∙ before) in
+                  subst (λ (r : Record). StandsOnChain (look (put c op.key next)) r × PendingFits (put c op.key next) r) own own_stands
+              by false e = other_stands i r before applies (λ q. true≢false (sym (ap is_eq (tied_itself id_cmp_total id)) ∙ sym (ap (λ (j : TxnId). is_eq (id_cmp j id)) q) ∙ e))
+
+      progressed : progress c op.key ≤ epoch (doc.revno +ℤ pos 1)
+      progressed = subst (λ (d : Option DocCell). progress_of d (stash_at c op.key) ≤ epoch (doc.revno +ℤ pos 1)) (sym found) (le_of_lt (next_above doc.revno present))
+
+      same_records : records (put c op.key next) ≡ records c
+      same_records = records-put_other c (name.Doc op.key) (cell.Doc next) refl (ap (option_and_then as_record) (doc_under c op.key doc found))
+
+      -- the update leaves the meaning, and decides nothing
+      pub written : IsQuiet c (put c op.key next)
+      written = record {
+        step = record { sound = sound_from (put c op.key next) cells step.orderly chains; later = step.later; lost = lost_same change.records change.queues; done = done_put_doc c op.key next progressed };
+        means = meaning-updated c id s.kinds rec u.there (put c op.key next) same_records op (doc_held_elsewhere c op.key next) only took body_done;
+        none = λ at. decided_by-same c (put c op.key next) at s.kinds same_records;
+      }

@@ -1,0 +1,5 @@
+use Rattle.store_laws.proofs.DecidingMoves.{abort_decides}
+use Rattle.store_laws.proofs.deciding.deciding_to_abort.Goals as goal
+
+pub returns : goal.returns
+returns g = abort_decides

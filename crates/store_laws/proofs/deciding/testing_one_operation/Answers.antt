@@ -1,0 +1,5 @@
+use Rattle.store_laws.proofs.OneOperation.{tests_one}
+use Rattle.store_laws.proofs.deciding.testing_one_operation.Goals as goal
+
+pub returns : goal.returns
+returns g = tests_one

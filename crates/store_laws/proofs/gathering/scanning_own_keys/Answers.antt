@@ -1,0 +1,9 @@
+use Rattle.store_laws.proofs.Graphs.{scanned_from, scanned_own}
+use Rattle.store_laws.proofs.Orderly.{orderly}
+use Rattle.store_laws.proofs.gathering.scanning_own_keys.Goals as goal
+
+pub returns : goal.returns
+returns c = record {
+  listed = λ view g id key found. scanned_from id key found;
+  own = λ c g id sound. scanned_own (orderly c sound) id;
+}

@@ -1,0 +1,10 @@
+use Rattle.std.proofs.lemmas.List.Elements.{All-from_recursion}
+use Rattle.store_laws.proofs.TrailTells.{trail_records, trail_keeps}
+use Rattle.store_laws.specs.Trail.{IsKept}
+use Rattle.store_laws.proofs.histories.reading_an_order.Goals as goal
+
+pub returns : goal.returns
+returns g = record {
+  keeps = λ place mark n base order t. All-from_recursion (IsKept _) order (trail_keeps place mark n base order t);
+  tells = λ place mark n base order id rec t there chose. trail_records place mark n base order t id rec there chose;
+}

@@ -1,0 +1,13 @@
+use Rattle.std.proofs.Common.{ap, sym, ◌∙◌, arith}
+use Rattle.txn_record.specs.Documents.{after}
+use Rattle.store_laws.proofs.TrailFaithful.{trail_faithful, means_at, steps_between}
+use Rattle.store_laws.proofs.TrailLegal.{trail_legal}
+use Rattle.store_laws.proofs.histories.trusting_a_trail.Goals as goal
+
+pub returns : goal.returns
+returns g = record {
+  faithful = trail_faithful;
+  legal = trail_legal;
+  means = λ place mark n base order t. means_at place mark n base order t n (omega arith) ∙ ap (after base) (sym t.order_is);
+  steps = λ place mark n base order j k t le within. steps_between place mark n base order t j k le within;
+}

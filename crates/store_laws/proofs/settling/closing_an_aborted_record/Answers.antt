@@ -1,0 +1,5 @@
+use Rattle.store_laws.proofs.JoinsOfRecords.{end_quiet}
+use Rattle.store_laws.proofs.settling.closing_an_aborted_record.Goals as goal
+
+pub returns : goal.returns
+returns g = end_quiet

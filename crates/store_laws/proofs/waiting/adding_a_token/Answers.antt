@@ -1,0 +1,5 @@
+use Rattle.store_laws.proofs.JoinsOfDocs.{add_quiet}
+use Rattle.store_laws.proofs.waiting.adding_a_token.Goals as goal
+
+pub returns : goal.returns
+returns c = add_quiet

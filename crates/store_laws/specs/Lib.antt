@@ -1,0 +1,9 @@
+pub mod Chains
+pub mod Placed
+pub mod Holding
+pub mod Alone
+pub mod Hits
+pub mod Trail
+pub mod Found
+pub mod Gathered
+pub mod Nonces

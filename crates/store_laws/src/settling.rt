@@ -1,0 +1,67 @@
+//! How a decided record comes to its end: its updates, and the moves to applied and aborted. Whoever
+//! makes these calls, and however often, the meaning stays.
+ghost use Rattle.std.specs.Prelude.{◌≡◌, ◌≤◌, unsigned_abs, ℕ, ℤ, List, [], ◌∷◌, Some, None, ◌⊎◌};
+ghost use Rattle.doc_value.specs.declared.value.Value.{Value};
+ghost use Rattle.txn_record.specs.Transactions.{IsTransaction};
+ghost use Rattle.txn_record.specs.declared.id.Token.{Token};
+ghost use Rattle.txn_record.specs.declared.id.TxnId.{TxnId};
+ghost use Rattle.txn_record.specs.declared.op.Op.{Op};
+ghost use Rattle.txn_record.specs.declared.record.Record.{Record};
+ghost use Rattle.txn_record.specs.declared.state.State.TheVariants as state;
+ghost use Rattle.store_trait.specs.Contents.{Content};
+ghost use Rattle.store_trait.specs.Done.{HasPassed, AllPassed, progress};
+ghost use Rattle.store_trait.specs.Edits.{edited};
+ghost use Rattle.store_trait.specs.Readiness.{token};
+ghost use Rattle.store_trait.specs.Soundness.{IsSound};
+ghost use Rattle.store_trait.specs.Steps.{IsStep, IsQuiet};
+ghost use Rattle.store_trait.specs.View.{record_at};
+ghost use Rattle.store_trait.specs.declared.edit.Edit.TheVariants as edit;
+ghost use Rattle.store_trait.specs.declared.name.Name.TheVariants as name;
+ghost use Rattle.store_laws.specs.Chains.{AppliesUpdate};
+
+/// An applying record's update at its number decides nothing and leaves the meaning. After it, hit or
+/// miss, the operation has passed, once its key had come to its number.
+pub fn updating_a_document()
+    ensures quiet { (c : Content) (id : TxnId) (rec : Record) (op : Op) (revno : ℤ) (update : Value) (waiting : Token) →
+        IsSound c → AppliesUpdate c id rec op revno update →
+        IsQuiet c (edited c (name.Doc op.key) (edit.Update revno waiting update)) }
+    ensures passes { (c : Content) (id : TxnId) (rec : Record) (op : Op) (revno : ℤ) (update : Value) (nonce : ℕ) →
+        IsSound c → AppliesUpdate c id rec op revno update → rec.nonce ≡ Some nonce → IsTransaction rec.ops →
+        HasPassed (edited c (name.Doc op.key) (edit.Update revno (token id nonce) update)) op revno }
+    ensures passes_in_turn { (c : Content) (id : TxnId) (rec : Record) (op : Op) (revno : ℤ) (update : Value) (nonce : ℕ) →
+        IsSound c → AppliesUpdate c id rec op revno update → rec.nonce ≡ Some nonce → unsigned_abs revno ≤ progress c op.key →
+        HasPassed (edited c (name.Doc op.key) (edit.Update revno (token id nonce) update)) op revno }
+{}
+
+/// An update of an operation that has passed changes nothing.
+pub fn updating_too_late()
+    ensures { (c : Content) (op : Op) (revno : ℤ) (waiting : Token) (update : Value) →
+        IsSound c → HasPassed c op revno →
+        edited c (name.Doc op.key) (edit.Update revno waiting update) ≡ c }
+{}
+
+/// What has passed stays so at every step, and an applying record stays so, with its numbers, until
+/// all its operations have passed.
+pub fn staying_done()
+    ensures passed { (c d : Content) (ops : List Op) (revnos : List ℤ) →
+        IsStep c d → AllPassed c ops revnos → AllPassed d ops revnos }
+    ensures applying { (c d : Content) (id : TxnId) (rec now : Record) (revnos : List ℤ) →
+        IsStep c d → record_at c id ≡ Some rec → rec.state ≡ state.Applying → rec.revnos ≡ Some revnos →
+        record_at d id ≡ Some now → (now.state ≡ state.Applying) ⊎ AllPassed d rec.ops revnos }
+{}
+
+/// An applying record whose operations have passed closes as applied: nothing is decided, and the
+/// meaning stays. In any other state the move misses.
+pub fn closing_an_applied_record()
+    ensures { (c : Content) (id : TxnId) →
+        IsSound c →
+        ((rec : Record) (revnos : List ℤ) → record_at c id ≡ Some rec → rec.state ≡ state.Applying → rec.revnos ≡ Some revnos →
+        AllPassed c rec.ops revnos) →
+        IsQuiet c (edited c (name.Record id) (edit.Move state.Applying state.Applied None None)) }
+{}
+
+/// An aborting record closes as aborted: nothing is decided, and the meaning stays.
+pub fn closing_an_aborted_record()
+    ensures { (c : Content) (id : TxnId) →
+        IsSound c → IsQuiet c (edited c (name.Record id) (edit.Move state.Aborting state.Aborted None None)) }
+{}
