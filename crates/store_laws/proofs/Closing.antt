@@ -28,7 +28,7 @@ use Rattle.store_laws.proofs.Done.{done_put, progress_epoch}
 use Rattle.store_laws.proofs.Effects.{meaning-closed}
 use Rattle.store_laws.proofs.Exclusive.{one_applying}
 use Rattle.store_laws.proofs.Idle.{OnlyApplies, on_pending, pending_of-applying}
-use Rattle.store_laws.proofs.JoinsOfRecords.{idle, settled_step, settled_already, stored_numbers}
+use Rattle.store_laws.proofs.RecordEdits.{idle, settled_step, settled_already, stored_numbers}
 use Rattle.store_laws.proofs.KindsOfMove.{close_step}
 use Rattle.store_laws.proofs.Looks.{record_looks}
 use Rattle.store_laws.proofs.Misses.{quiet_itself, by_move}

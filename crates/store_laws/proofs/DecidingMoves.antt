@@ -30,7 +30,7 @@ use Rattle.store_laws.proofs.Decided.{decided_by-put, newly_chosen}
 use Rattle.store_laws.proofs.Effects.{meaning-free, meaning-applied}
 use Rattle.store_laws.proofs.Exclusive.{none_applying}
 use Rattle.store_laws.proofs.Idle.{NoneApplies}
-use Rattle.store_laws.proofs.JoinsOfRecords.{idle, own_id, kept_id, stored_numbers, in_place}
+use Rattle.store_laws.proofs.RecordEdits.{idle, own_id, kept_id, stored_numbers, in_place}
 use Rattle.store_laws.proofs.KindsOfMove.{apply_step, abort_step}
 use Rattle.store_laws.proofs.Looks.{record_looks}
 use Rattle.store_laws.proofs.Lost.{lost_moved, goes_plainly, goes_applying}

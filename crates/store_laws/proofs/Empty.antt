@@ -19,7 +19,7 @@ use Rattle.store_trait.specs.declared.name.Name.TheVariants as name
 use Rattle.store_laws.specs.Alone.{IsAtRest}
 use Rattle.store_laws.proofs.Views.{present_decided, decided_if_chosen, chosen_if_applying}
 
-abbrev nothing : Content
+abbrev pub nothing : Content
 nothing = empty
 
 none_under : (n : Name) → get nothing n ≡ None
@@ -29,7 +29,7 @@ no_record : (id : TxnId) → record_at nothing id ≡ None
 unfolding record_at
 no_record id = ap (option_and_then as_record) (none_under (name.Record id))
 
-no_doc : (key : Key) → doc_at nothing key ≡ None
+pub no_doc : (key : Key) → doc_at nothing key ≡ None
 unfolding doc_at
 no_doc key = ap (option_and_then as_doc) (none_under (name.Doc key))
 

@@ -25,10 +25,10 @@ pub mod Done
 pub mod Idle
 pub mod Effects
 pub mod Misses
-pub mod JoinsOfRecords
+pub mod RecordEdits
 pub mod Numbers
 pub mod OneChain
-pub mod JoinsOfDocs
+pub mod DocEdits
 pub mod Fitting
 pub mod DecidingMoves
 pub mod Owning
@@ -36,7 +36,7 @@ pub mod Updating
 pub mod UpdateEdits
 pub mod Placing
 pub mod Lost
-pub mod Fellows
+pub mod AmongSettled
 pub mod Local
 pub mod AfterEdits
 pub mod Hits
@@ -57,3 +57,4 @@ pub mod Taken
 pub mod OneOperation
 pub mod Owners
 pub mod Equals
+pub mod PlainEdits

@@ -19,7 +19,7 @@ use Rattle.store_trait.specs.declared.edit.Edit.TheVariants as edit
 use Rattle.store_trait.specs.declared.name.Name.TheVariants as name
 use Rattle.store_laws.specs.Nonces.{NoncesCome, NoncesStay}
 use Rattle.store_laws.proofs.AfterEdits.{record_elsewhere}
-use Rattle.store_laws.proofs.JoinsOfRecords.{stored_numbers}
+use Rattle.store_laws.proofs.RecordEdits.{stored_numbers}
 use Rattle.store_laws.proofs.Looks.{record_looks}
 use Rattle.store_laws.proofs.Misses.{by_move}
 use Rattle.store_laws.proofs.Moves.{each_record, put_here}

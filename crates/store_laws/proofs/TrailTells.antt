@@ -22,7 +22,7 @@ use Rattle.store_trait.specs.declared.cell.Cell.{Cell}
 use Rattle.store_trait.specs.declared.cell.Cell.TheVariants as cell
 use Rattle.store_trait.specs.declared.name.Name.{Name}
 use Rattle.store_trait.specs.declared.name.Name.TheVariants as name
-use Rattle.store_laws.proofs.JoinsOfRecords.{own_id}
+use Rattle.store_laws.proofs.RecordEdits.{own_id}
 use Rattle.store_laws.proofs.Orderly.{record_under}
 use Rattle.store_laws.proofs.TrailGrows.{step_of}
 use Rattle.store_laws.proofs.TrailFaithful.{sound_at}

@@ -45,7 +45,7 @@ use Rattle.store_laws.proofs.Inherits.{at_on, at_leaves, at_within, chain_has}
 use Rattle.store_laws.proofs.Taken.{Taken, taken, after_present, present_on, first_present}
 use Rattle.txn_record.proofs.DocumentLaws.{get-effect_of_here, get-effect_of_other}
 use Rattle.store_laws.proofs.Idle.{OnlyApplies, on_pending, pending_of-keys, pending_of-applying}
-use Rattle.store_laws.proofs.JoinsOfRecords.{stored_numbers}
+use Rattle.store_laws.proofs.RecordEdits.{stored_numbers}
 use Rattle.store_laws.proofs.Lookups
 use Rattle.store_laws.proofs.Lost.{lost_same}
 use Rattle.store_laws.proofs.Looks.{put, read_put, doc_held_elsewhere, doc_writes}

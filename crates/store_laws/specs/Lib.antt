@@ -7,3 +7,4 @@ pub mod Trail
 pub mod Found
 pub mod Gathered
 pub mod Nonces
+pub mod Plain

@@ -9,6 +9,7 @@ mod forward;
 mod gathering;
 mod histories;
 mod holding;
+mod plain;
 mod preparing;
 mod settling;
 mod submitting;
@@ -24,6 +25,7 @@ pub use forward::{readiness_lasts, ready_records_share_no_key, steps_follow};
 pub use gathering::{findings_last, gathering_the_ready, gatherings_last, scanning_own_keys};
 pub use histories::{growing_a_trail, reading_an_order, trusting_a_trail};
 pub use holding::owning_a_key;
+pub use plain::staying_plain;
 pub use preparing::preparing_a_record;
 pub use settling::{
     closing_an_aborted_record, closing_an_applied_record, staying_done, updating_a_document,

@@ -1,4 +1,4 @@
-use Rattle.store_laws.proofs.JoinsOfDocs.{add_quiet}
+use Rattle.store_laws.proofs.DocEdits.{add_quiet}
 use Rattle.store_laws.proofs.waiting.adding_a_token.Goals as goal
 
 pub returns : goal.returns

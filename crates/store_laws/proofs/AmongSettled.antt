@@ -1,4 +1,4 @@
--- A record whose fellows are all settled is ready.
+-- A decided record among settled ones is ready.
 use Rattle.std.proofs.Common.{◌≡◌, ◌≢◌, true, false, List, [], ◌∷◌, ◌⊎◌, inl, inr, ⊎_elim, sym, ap, ◌∙◌, refl, subst, true≢false}
 use Rattle.txn_record.specs.Walks.{Leads}
 use Rattle.txn_record.specs.declared.id.TxnId.{TxnId}

@@ -1,0 +1,11 @@
+-- Contents of documents alone.
+use Rattle.std.specs.Prelude.{◌≡◌, Some, None}
+use Rattle.txn_record.specs.declared.key.Key.{Key}
+use Rattle.store_trait.specs.Contents.{Content}
+use Rattle.store_trait.specs.View.{doc_at, stash_at}
+use Rattle.store_trait.specs.declared.cell.DocCell.{DocCell}
+
+-- no key has a stash entry, and no document is marked
+pub record IsPlain (c : Content) : Type 0 where
+  pub no_stash : (key : Key) → stash_at c key ≡ None
+  pub unmarked : (key : Key) (doc : DocCell) → doc_at c key ≡ Some doc → doc.remove ≡ None
