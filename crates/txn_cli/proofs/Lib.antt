@@ -7,3 +7,4 @@ pub mod Script
 pub mod IndexLaws
 pub mod Showing
 pub mod Opening
+pub mod Playing

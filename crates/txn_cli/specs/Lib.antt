@@ -13,3 +13,4 @@ pub mod Texts
 pub mod Index
 pub mod Refusals
 pub mod Outcomes
+pub mod Reading

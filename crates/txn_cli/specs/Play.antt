@@ -1,4 +1,4 @@
-use Rattle.std.specs.Prelude.{◌≡◌, ℕ, zero, suc, ◌-◌, ◌+◌, ◌&&◌, ◌⊎◌, Bool, true, false, not, nat_lt, pos, List, [], ◌∷◌, ◌++◌, length, Option, Some, None, is_some, Result, Ok, Err, codes}
+use Rattle.std.specs.Prelude.{◌≡◌, ℕ, zero, suc, ◌+◌, ◌&&◌, ◌⊎◌, Bool, true, false, not, nat_lt, pos, List, [], ◌∷◌, ◌++◌, length, Option, Some, None, is_some, Result, Ok, Err, codes}
 use Rattle.std.specs.FinMap.{get, insert}
 use Rattle.std.specs.List.{list_any, list_all}
 use Rattle.doc_value.specs.declared.value.Value.{Value}
@@ -11,7 +11,7 @@ use Rattle.store_trait.specs.declared.cell.Cell.{Cell}
 use Rattle.store_trait.specs.declared.cell.Cell.TheVariants as cell
 use Rattle.store_trait.specs.declared.name.Name.TheVariants as name
 use Rattle.std.specs.Str.{bytes_eq}
-use Rattle.txn_cli.specs.Lines.{first_line, after_line, reading}
+use Rattle.txn_cli.specs.Lines.{first_line, after_line, line_cost, reading}
 use Rattle.txn_cli.specs.declared.io.lines.LineFault.TheVariants as line_fault
 use Rattle.txn_cli.specs.declared.fault.Fault.{Fault}
 use Rattle.txn_cli.specs.declared.fault.Fault.TheVariants as fault
@@ -107,6 +107,17 @@ pub data Plays (script : List ℕ) (opening : Progress) : ℕ → Progress → T
   Opens : Plays script opening 0 opening
   Then : (n : ℕ) (line : List ℕ) (p q : Progress) → Plays script opening n p → first_line (after_lines n script) ≡ Some line → PlaysLine line p q → Plays script opening (n + 1) q
 
+-- how many bytes the first n lines of a script take, their newlines among them
+abbrev pub taken_by : ℕ → List ℕ → ℕ
+taken_by zero script = 0
+taken_by (suc n) script = taken_by n script + line_cost (after_lines n script)
+
+-- a script was done up to its nth line, and this is left of it
+pub record IsAt (script : List ℕ) (opening : Progress) (n bytes : ℕ) (left : List ℕ) (p : Progress) : Type 0 where
+  pub plays : Plays script opening n p
+  pub rest : after_lines n script ≡ left
+  pub taken : taken_by n script ≡ bytes
+
 -- every line of a script was done, and the batch that waited at its end was run
 pub record IsPlayed (script : List ℕ) (opening : Progress) : Type 0 where
   pub count : ℕ
@@ -115,10 +126,6 @@ pub record IsPlayed (script : List ℕ) (opening : Progress) : Type 0 where
   pub ended : after_lines count script ≡ []
   pub end : Progress
   pub runs : RunsWaiting last.waiting last end
-
--- how many bytes the first n lines of a script take, their newlines among them
-abbrev pub taken_by : ℕ → List ℕ → ℕ
-taken_by n script = length script - length (after_lines n script)
 
 -- The line that a script is refused at: the first that isn't done. It is refused by its length, by
 -- that of the script up to it, or for what it states.

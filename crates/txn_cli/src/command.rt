@@ -1,6 +1,6 @@
 //! The top call.
 
-ghost use Rattle.std.specs.Prelude.{◌≡◌, ◌≢◌, ◌≤◌, ◌⊎◌, ℕ, true, false, IsTrue, OnOk, OnErr, IfOk, IfErr, IfSome, IfNone, IsErrOf, map, string_bytes, if◌then◌else◌};
+ghost use Rattle.std.specs.Prelude.{◌≡◌, [], ◌≢◌, ◌≤◌, ◌⊎◌, ℕ, true, false, IsTrue, OnOk, OnErr, IfOk, IfErr, IfSome, IfNone, IsErrOf, map, string_bytes, if◌then◌else◌};
 ghost use Rattle.std.specs.FinMap.{empty};
 ghost use Rattle.std.specs.List.{list_any};
 ghost use Rattle.store_trait.specs.Calls.{CallsGoOn, Rose};
@@ -39,6 +39,13 @@ pub fn command<S: Store, I: Source, O: Sink>(
     ensures words { IsTrue (is_grammar (map string_bytes words.now)) → result.fault ≢ Some Fault.Words }
     ensures usage { is_grammar (map string_bytes words.now) ≡ false →
         (result.status ≡ 2) ⊎ (result.status ≡ 7) ⊎ (result.status ≡ 8) }
+
+    // Over a source and a store that tell, the store empty as the call begins: 0 and 1 say that each
+    // line was read and done, and 3 that the line it names is the first that is refused.
+    ensures played { IsTrue I.tells → IsTrue S.tells → S.content store ≡ empty → IfNone result.fault
+        (IsPlayed (I.rest input.old) (progress (S.content store) [] false)) }
+    ensures line { IsTrue I.tells → IsTrue S.tells → S.content store ≡ empty → IfSome result.fault
+        (λ fault. IsOfLine fault → Refuses (I.rest input.old) (progress (S.content store) [] false) fault) }
 
     // 5, 6 and 7 come only where the store, the input or the output counted a fault in this call.
     ensures store { result.fault ≡ Some Fault.Store → Rose (S.faults store) (S.faults result.store) }
@@ -133,6 +140,11 @@ fn play<S: Store, I: Source, O: Sink>(
     input: &mut I,
     output: &mut O,
 ) -> Result<(), Fault>
+    ensures played { IsTrue I.tells → IsTrue S.tells → S.content session.old.store ≡ empty → OnOk result
+        (IsPlayed (I.rest input.old) (progress (S.content session.old.store) session.old.batch session.old.begun)) }
+    ensures line { IsTrue I.tells → IsTrue S.tells → S.content session.old.store ≡ empty → IfErr result
+        (λ fault. IsOfLine fault → Refuses (I.rest input.old)
+        (progress (S.content session.old.store) session.old.batch session.old.begun) fault) }
     ensures words { IfErr result (λ fault. fault ≢ Fault.Words) }
     ensures store { IsErrOf result Fault.Store → Rose (S.faults session.old.store) (S.faults session.new.store) }
     ensures input { IsErrOf result Fault.Input → Rose (I.faults input.old) (I.faults input.new) }

@@ -1,0 +1,86 @@
+-- How a script goes on by one line, ends, or is refused.
+use Rattle.std.proofs.Common.{◌≡◌, ◌≢◌, ℕ, suc, ◌+◌, ◌≤◌, List, [], ◌∷◌, Option, Some, None, Result, Ok, Err, OnOk, IsTrue, Bool, refl, sym, ap, subst, ◌∙◌, add-one, arith}
+use Rattle.store_trait.specs.Calls.{CallsGoOn, GoesOn}
+use Rattle.store_trait.specs.Contents.{Content}
+use Rattle.txn_cli.specs.Faulting.{fault_of_line}
+use Rattle.txn_cli.specs.Lines.{first_line, after_line, line_cost, line_of, reading, unless_passed, limit_passed}
+use Rattle.txn_cli.specs.Play.{Progress, Plays, IsAt, IsPlayed, IsRefused, PlaysLine, Refuses, RunsWaiting, after_lines, taken_by}
+use Rattle.txn_cli.specs.Refusals.{IsOfLine, not_built}
+use Rattle.txn_cli.specs.declared.fault.Fault.{Fault}
+use Rattle.txn_cli.specs.declared.fault.Fault.TheVariants as fault
+use Rattle.txn_cli.specs.declared.io.lines.LineFault.{LineFault}
+use Rattle.txn_cli.specs.declared.io.lines.LineFault.TheVariants as line_fault
+
+unpassed : (passed : Option LineFault) (found line : Option (List ℕ)) → unless_passed passed found ≡ Ok line → found ≡ line
+unpassed None found line e = cc
+unpassed (Some f) found line e = absurd (cc)
+
+-- a line that was read is the first one
+pub line_read : (taken : ℕ) (input : List ℕ) (line : Option (List ℕ)) → reading taken input ≡ Ok line → first_line input ≡ line
+line_read taken input line e = unpassed (limit_passed taken _ _) (first_line input) line e
+
+none_left : (input : List ℕ) → first_line input ≡ None → input ≡ []
+none_left [] e = refl
+none_left (byte ∷ bytes) e = absurd (cc)
+
+pub one_more : (script : List ℕ) (opening : Progress) (n taken : ℕ) (input : List ℕ) (p q : Progress) (line : List ℕ) (new_taken : ℕ) (new_input : List ℕ)
+    → IsAt script opening n taken input p → first_line input ≡ Some line → PlaysLine line p q
+    → new_input ≡ after_line input → new_taken ≡ taken + line_cost input
+    → IsAt script opening (n + 1) new_taken new_input q
+one_more script opening n taken input p q line new_taken new_input a first plays rest cost = record {
+  plays = Plays.Then n line p q a.plays (ap first_line a.rest ∙ first) plays;
+  rest = rw add-one (ap after_line a.rest ∙ sym rest);
+  taken = rw (add-one, a.taken, a.rest) (sym cost);
+}
+
+pub refuses_line : (script : List ℕ) (opening : Progress) (n taken : ℕ) (input : List ℕ) (p : Progress) (line : List ℕ) (f : Fault)
+    → IsAt script opening n taken input p → first_line input ≡ Some line → IsRefused line p → f ≡ not_built (n + 1)
+    → Refuses script opening f
+refuses_line script opening n taken input p line f a first refused e =
+    subst (λ (x : Fault). Refuses script opening x) (sym e) (Refuses.NotBuilt n p line a.plays (ap first_line a.rest ∙ first) refused)
+
+pub ends : (script : List ℕ) (opening : Progress) (n taken : ℕ) (input : List ℕ) (p q : Progress)
+    → IsAt script opening n taken input p → first_line input ≡ None → RunsWaiting p.waiting p q → IsPlayed script opening
+ends script opening n taken input p q a none runs = record {
+  count = n;
+  last = p;
+  plays = a.plays;
+  ended = a.rest ∙ none_left input none;
+  end = q;
+  runs = runs;
+}
+
+pub on_ok : {T E : Type 0} (r : Result T E) (P Q : Type 0) → OnOk r P → (P → Q) → OnOk r Q
+on_ok (Ok x) P Q h f = f h
+on_ok (Err e) P Q h f = h
+
+no_line : (f : Fault) → IsOfLine f → f ≢ fault.OutOfMemory
+no_line f h e = subst (λ (x : Fault). IsOfLine x) e h
+
+pub unread : (script : List ℕ) (opening : Progress) (n taken : ℕ) (input : List ℕ) (p : Progress) (why : LineFault) (f : Fault)
+    → IsAt script opening n taken input p
+    → (why ≡ line_fault.TooLong → reading taken input ≡ Err line_fault.TooLong)
+    → (why ≡ line_fault.ScriptTooLong → reading taken input ≡ Err line_fault.ScriptTooLong)
+    → (f ≢ fault.OutOfMemory → f ≡ fault_of_line (n + 1) why)
+    → IsOfLine f → Refuses script opening f
+unread script opening n taken input p line_fault.TooLong f a long script_long exact h =
+    subst (λ (x : Fault). Refuses script opening x) (sym (exact (no_line f h))) (Refuses.TooLong n p a.plays (rw (a.taken, a.rest) (long refl)))
+unread script opening n taken input p line_fault.ScriptTooLong f a long script_long exact h =
+    subst (λ (x : Fault). Refuses script opening x) (sym (exact (no_line f h))) (Refuses.ScriptTooLong n p a.plays (rw (a.taken, a.rest) (script_long refl)))
+unread script opening n taken input p line_fault.ReadFault f a long script_long exact h =
+    absurd (subst (λ (x : Fault). IsOfLine x) (exact (no_line f h)) h)
+unread script opening n taken input p line_fault.OutOfMemory f a long script_long exact h =
+    absurd (no_line f h (exact (no_line f h)))
+
+-- calls on a store, and then more
+pub calls_then : {S : Type 0} (tells : Bool) (content : S → Content) (place : S → ℕ → Content) (calls faults : S → ℕ) (a b c : S)
+    → CallsGoOn tells content place calls faults a b → CallsGoOn tells content place calls faults b c
+    → CallsGoOn tells content place calls faults a c
+calls_then tells content place calls faults a b c first second = record {
+  trail = λ told. record {
+    before = λ n le. (second.trail told).before n (omega (arith, first.counted)) ∙ (first.trail told).before n le;
+    here = (second.trail told).here;
+  };
+  counted = omega (arith, first.counted, second.counted);
+  later = omega (arith, first.later, second.later);
+}
