@@ -13,7 +13,9 @@ import time
 
 HERE = os.path.dirname(os.path.abspath(__file__))
 PROGRAM = os.path.join(HERE, "..", "crates", "txn_cli", "out", "txn_cli")
-SIZES = [1_000, 2_000, 4_000, 8_000, 16_000, 32_000, 64_000]
+COUNTS = [1_000, 2_000, 4_000, 8_000, 16_000, 32_000, 64_000]
+BYTES = [2**20, 2**21, 2**22, 2**23, 2**24]
+FORMS = {"apart": COUNTS, "one": COUNTS, "list": BYTES, "text": BYTES, "objects": BYTES, "names": BYTES}
 
 
 def measured(script):
@@ -33,9 +35,9 @@ def measured(script):
 
 
 def main():
-    for form in sys.argv[1:] or ["apart", "one"]:
+    for form in sys.argv[1:] or FORMS:
         print("| %s | seconds | MB |\n|---|---|---|" % form)
-        for size in SIZES:
+        for size in FORMS[form]:
             with tempfile.NamedTemporaryFile("w", suffix=".jsonl") as script:
                 subprocess.run([sys.executable, os.path.join(HERE, "make.py"), form, str(size)],
                                stdout=script, check=True)
