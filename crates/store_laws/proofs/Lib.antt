@@ -58,3 +58,4 @@ pub mod OneOperation
 pub mod Owners
 pub mod Equals
 pub mod PlainEdits
+pub mod Resting

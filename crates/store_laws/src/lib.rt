@@ -4,6 +4,7 @@
 
 mod alone;
 mod deciding;
+mod documents;
 mod edits;
 mod forward;
 mod gathering;
@@ -20,6 +21,7 @@ pub use deciding::{
     beginning_a_chain, deciding_to_abort, deciding_to_apply, testing_a_ready_record,
     testing_one_operation,
 };
+pub use documents::{bodies_as_they_lie, meaning_at_rest};
 pub use edits::{edits_are_local, edits_hit, edits_leave};
 pub use forward::{readiness_lasts, ready_records_share_no_key, steps_follow};
 pub use gathering::{findings_last, gathering_the_ready, gatherings_last, scanning_own_keys};

@@ -1,6 +1,6 @@
 -- An empty store has no first cell.
-use Rattle.std.proofs.Common.{◌≡◌, find, ℕ, List, [], ◌∷◌, length, Option, Some, None, true, false, refl, ap, subst, sym, ◌∙◌, arith}
-use Rattle.std.specs.FinMap.{FinMap, empty, entries, len-entries, len-empty}
+use Rattle.std.proofs.Common.{◌≡◌, find, List, [], ◌∷◌, length, Option, Some, None, true, false, refl, ap, subst, sym, ◌∙◌, arith}
+use Rattle.std.specs.FinMap.{empty, entries, len-entries, len-empty, same_entries_map}
 use Rattle.std.specs.Option.{option_map}
 use Rattle.store_trait.specs.Names.{name_cmp}
 use Rattle.store_trait.specs.Contents.{Content, is_past, first_past, named}
@@ -20,3 +20,11 @@ no_first c e =
 
 pub not_both : {A : Type 0} (o : Option A) (x : A) → o ≡ Some x → o ≡ None → false ≡ true
 not_both o x some none = cc
+
+-- a store with no first cell is empty
+no_cells : (es : List (Name × Cell)) → option_map named (find (λ entry. is_past None entry.0) es) ≡ None → es ≡ []
+no_cells [] e = refl
+no_cells (entry ∷ es) e = absurd (cc)
+
+pub none_is_empty : (c : Content) → option_map named (first_past None c) ≡ None → c ≡ empty
+none_is_empty c e = same_entries_map c empty (no_cells (entries c) e ∙ sym no_entries)

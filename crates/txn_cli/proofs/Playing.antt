@@ -1,15 +1,15 @@
 -- How a script goes on by one line, ends, or is refused.
-use Rattle.std.proofs.Common.{◌≡◌, ◌≢◌, ℕ, suc, ◌+◌, ◌≤◌, List, [], ◌∷◌, Option, Some, None, Result, Ok, Err, OnOk, IsTrue, Bool, refl, sym, ap, subst, ◌∙◌, add-one, arith}
-use Rattle.store_trait.specs.Calls.{CallsGoOn, GoesOn}
+use Rattle.std.proofs.Common.{◌≡◌, ◌≢◌, ℕ, ◌+◌, ◌≤◌, List, [], ◌∷◌, Option, Some, None, Result, Ok, Err, OnOk, Bool, ⊎_elim, inl, inr, refl, sym, ap, subst, ◌∙◌, add-one, arith}
+use Rattle.store_trait.specs.Calls.{CallsGoOn, OneCall, Rose}
 use Rattle.store_trait.specs.Contents.{Content}
 use Rattle.txn_cli.specs.Faulting.{fault_of_line}
-use Rattle.txn_cli.specs.Lines.{first_line, after_line, line_cost, line_of, reading, unless_passed, limit_passed}
-use Rattle.txn_cli.specs.Play.{Progress, Plays, IsAt, IsPlayed, IsRefused, PlaysLine, Refuses, RunsWaiting, after_lines, taken_by}
+use Rattle.txn_io.specs.Lines.{first_line, after_line, line_cost, reading, unless_passed, limit_passed}
+use Rattle.txn_cli.specs.Play.{Progress, Plays, IsAt, IsPlayed, IsRefused, PlaysLine, Refuses, RunsWaiting}
 use Rattle.txn_cli.specs.Refusals.{IsOfLine, not_built}
 use Rattle.txn_cli.specs.declared.fault.Fault.{Fault}
 use Rattle.txn_cli.specs.declared.fault.Fault.TheVariants as fault
-use Rattle.txn_cli.specs.declared.io.lines.LineFault.{LineFault}
-use Rattle.txn_cli.specs.declared.io.lines.LineFault.TheVariants as line_fault
+use Rattle.txn_io.specs.declared.lines.LineFault.{LineFault}
+use Rattle.txn_io.specs.declared.lines.LineFault.TheVariants as line_fault
 
 unpassed : (passed : Option LineFault) (found line : Option (List ℕ)) → unless_passed passed found ≡ Ok line → found ≡ line
 unpassed None found line e = cc
@@ -40,13 +40,12 @@ refuses_line script opening n taken input p line f a first refused e =
     subst (λ (x : Fault). Refuses script opening x) (sym e) (Refuses.NotBuilt n p line a.plays (ap first_line a.rest ∙ first) refused)
 
 pub ends : (script : List ℕ) (opening : Progress) (n taken : ℕ) (input : List ℕ) (p q : Progress)
-    → IsAt script opening n taken input p → first_line input ≡ None → RunsWaiting p.waiting p q → IsPlayed script opening
+    → IsAt script opening n taken input p → first_line input ≡ None → RunsWaiting p.waiting p q → IsPlayed script opening q
 ends script opening n taken input p q a none runs = record {
   count = n;
   last = p;
   plays = a.plays;
   ended = a.rest ∙ none_left input none;
-  end = q;
   runs = runs;
 }
 
@@ -84,3 +83,24 @@ calls_then tells content place calls faults a b c first second = record {
   counted = omega (arith, first.counted, second.counted);
   later = omega (arith, first.later, second.later);
 }
+
+-- calls on a store, and one more, whatever it answers
+pub call_after : {S T E : Type 0} (tells : Bool) (content : S → Content) (place : S → ℕ → Content) (calls faults : S → ℕ) (a b c : S) (result : Result T E) (failed : E)
+    → CallsGoOn tells content place calls faults a b → OneCall tells content place calls faults b c result failed
+    → CallsGoOn tells content place calls faults a c
+call_after {S} {T} {E} tells content place calls faults a b c result failed first one = record {
+  trail = λ told. record {
+    before = λ n le. (one.trail told).before n (omega (arith, first.counted)) ∙ (first.trail told).before n le;
+    here = (one.trail told).here;
+  };
+  counted = by result one;
+  later = omega (arith, first.later, one.later);
+}
+  where
+    by : (r : Result T E) → OneCall tells content place calls faults b c r failed → calls a ≤ calls c
+    by (Ok x) o = omega (arith, first.counted, o.counted)
+    by (Err e) o = ⊎_elim (λ more. omega (arith, first.counted, more)) (λ same. omega (arith, first.counted, same)) o.counted_err
+
+-- a count that rose since then rose since before
+pub rose_before : {a b n : ℕ} → a ≤ b → Rose b n → Rose a n
+rose_before le rose = ⊎_elim (λ less. inl (omega (arith, le, less))) (λ last. inr last) rose

@@ -1,6 +1,6 @@
 use Rattle.std.specs.Prelude.{ℕ, codes}
-use Rattle.txn_cli.specs.declared.io.lines.LineFault.{LineFault}
-use Rattle.txn_cli.specs.declared.io.lines.LineFault.TheVariants as line_fault
+use Rattle.txn_io.specs.declared.lines.LineFault.{LineFault}
+use Rattle.txn_io.specs.declared.lines.LineFault.TheVariants as line_fault
 use Rattle.store_trait.specs.declared.store.StoreError.{StoreError}
 use Rattle.store_trait.specs.declared.store.StoreError.TheVariants as store_error
 use Rattle.txn_cli.specs.declared.fault.StepError.{StepError}

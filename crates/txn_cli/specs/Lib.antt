@@ -1,12 +1,6 @@
 pub mod Faulting
-pub mod Faults
-pub mod Gathering
-pub mod Lines
 pub mod Listing
-pub mod Memory
 pub mod Play
-pub mod Pour
-pub mod Script
 pub mod Stages
 pub mod Statements
 pub mod Texts
@@ -14,3 +8,10 @@ pub mod Index
 pub mod Refusals
 pub mod Outcomes
 pub mod Reading
+pub mod Running
+pub mod Settling
+pub mod Store
+pub mod Causes
+pub mod Batches
+pub mod Runs
+pub mod Sessions

@@ -1,48 +1,47 @@
-use Rattle.std.specs.Prelude.{◌≡◌, ℕ, zero, suc, ◌+◌, ◌&&◌, ◌⊎◌, Bool, true, false, not, nat_lt, pos, List, [], ◌∷◌, ◌++◌, length, Option, Some, None, is_some, Result, Ok, Err, codes}
-use Rattle.std.specs.FinMap.{get, insert}
-use Rattle.std.specs.List.{list_any, list_all}
+use Rattle.std.specs.Prelude.{◌≡◌, ℕ, zero, suc, ◌+◌, ◌&&◌, Bool, true, false, not, nat_lt, pos, List, [], ◌∷◌, ◌++◌, length, Option, Some, None, Result, Ok, Err, codes}
+use Rattle.std.specs.FinMap.{insert}
+use Rattle.std.specs.List.{list_all}
 use Rattle.doc_value.specs.declared.value.Value.{Value}
+use Rattle.txn_record.specs.Documents.{after, legal}
 use Rattle.txn_record.specs.declared.id.TxnId.{TxnId}
-use Rattle.txn_record.specs.declared.key.Key.{Key}
-use Rattle.txn_record.specs.declared.op.Op.{Op}
 use Rattle.store_trait.specs.Contents.{Content}
-use Rattle.store_trait.specs.Names.{same_id}
+use Rattle.store_trait.specs.Meaning.{meaning}
+use Rattle.store_trait.specs.Soundness.{IsSound}
+use Rattle.store_trait.specs.View.{record_at}
 use Rattle.store_trait.specs.declared.cell.Cell.{Cell}
 use Rattle.store_trait.specs.declared.cell.Cell.TheVariants as cell
 use Rattle.store_trait.specs.declared.name.Name.TheVariants as name
 use Rattle.std.specs.Str.{bytes_eq}
-use Rattle.txn_cli.specs.Lines.{first_line, after_line, line_cost, reading}
-use Rattle.txn_cli.specs.declared.io.lines.LineFault.TheVariants as line_fault
+use Rattle.txn_io.specs.Lines.{first_line, after_line, line_cost, reading}
+use Rattle.txn_io.specs.declared.lines.LineFault.TheVariants as line_fault
 use Rattle.txn_cli.specs.declared.fault.Fault.{Fault}
 use Rattle.txn_cli.specs.declared.fault.Fault.TheVariants as fault
 use Rattle.txn_cli.specs.Statements.{line_in}
+use Rattle.txn_cli.specs.Batches.{waits, Every, StandsIn, batch_text}
+use Rattle.txn_cli.specs.Store.{has_document, has_record}
+use Rattle.txn_cli.specs.Texts.{documents_text}
+use Rattle.txn_cli.specs.declared.done.Run.{Run}
 use Rattle.txn_cli.specs.declared.statement.Statement.{Statement}
 use Rattle.txn_cli.specs.declared.statement.Statement.TheVariants as statement
 use Rattle.txn_cli.specs.declared.statement.ScriptFault.{ScriptFault}
 use Rattle.txn_cli.specs.declared.waiting.Waiting.{Waiting}
 
--- How far a script has come: what the store holds, the transactions that wait, and whether a
--- statement other than `doc` stood already.
+-- How far a script has come: what the store holds, the transactions that wait, whether a statement
+-- other than `doc` stood already, the Runs, and what was printed.
 pub record Progress : Type 0 where
   pub content : Content
   pub waiting : List Waiting
   pub begun : Bool
+  pub runs : List Run
+  pub printed : List ℕ
 
-abbrev pub progress : Content → List Waiting → Bool → Progress
-progress content waiting begun = record { content = content; waiting = waiting; begun = begun }
+-- as a call begins
+abbrev pub opening : Content → Progress
+opening content = record { content = content; waiting = []; begun = false; runs = []; printed = [] }
 
 -- a document as a `doc` line places it
 abbrev pub placed_doc : Value → Cell
 placed_doc body = cell.Doc (record { body = body; revno = pos 0; queue = []; remove = None })
-
-abbrev pub has_document : Content → Key → Bool
-has_document content key = is_some (get content (name.Doc key))
-
-abbrev pub has_record : Content → TxnId → Bool
-has_record content id = is_some (get content (name.Record id))
-
-abbrev pub waits : List Waiting → TxnId → Bool
-waits waiting id = list_any (λ other. same_id other.id id) waiting
 
 -- how many transactions may wait
 abbrev pub most_waiting : ℕ
@@ -57,8 +56,31 @@ is_allowed p (statement.Submit id ops) = nat_lt (length p.waiting) most_waiting 
 is_allowed p statement.Go = true
 is_allowed p statement.Show = true
 
--- the batch was run: nothing waits any more
+-- A batch was run over the one content, and left the other. The Run's base is what the store meant, and
+-- the order is legal and leads to what the store means now. Each transaction of the batch is applied or
+-- aborted and has its entry, and the order has no others; no other record was touched.
+pub record RanBatch (old new : Content) (waiting : List Waiting) (run : Run) (lines : List ℕ) : Type 0 where
+  pub opens : IsSound old
+  pub closes : IsSound new
+  pub base : run.base ≡ meaning old
+  pub legal : legal run.base run.order ≡ true
+  pub means : meaning new ≡ after run.base run.order
+  pub stand : Every (StandsIn new run.order) waiting
+  pub only : list_all (λ entry. waits waiting entry.id) run.order ≡ true
+  pub others : (id : TxnId) → waits waiting id ≡ false → record_at new id ≡ record_at old id
+  pub text : lines ≡ batch_text new waiting
+
+-- a batch was run, and its Run is kept behind those before it
+pub record HasRunBatch (old new : Content) (waiting : List Waiting) (before after : List Run) (lines : List ℕ) : Type 0 where
+  pub run : Run
+  pub ran : RanBatch old new waiting run lines
+  pub kept : after ≡ before ++ run ∷ []
+
+-- the batch was run: nothing waits any more, there is one Run more, and the outcomes were printed
 pub record RunsBatch (p q : Progress) : Type 0 where
+  pub lines : List ℕ
+  pub ran : HasRunBatch p.content q.content p.waiting p.runs q.runs lines
+  pub printed : q.printed ≡ p.printed ++ lines
   pub none_waits : q.waiting ≡ []
   pub begun : q.begun ≡ true
 
@@ -72,7 +94,7 @@ abbrev pub Performs : Statement → Progress → Progress → Type 0
 Performs (statement.Doc key body) p q = q ≡ record p { content = insert p.content (name.Doc key) (placed_doc body) }
 Performs (statement.Submit id ops) p q = q ≡ record p { waiting = p.waiting ++ record { id = id; ops = ops } ∷ []; begun = true }
 Performs statement.Go p q = RunsBatch p q
-Performs statement.Show p q = (r : Progress) × RunsWaiting p.waiting p r × (q ≡ record r { begun = true })
+Performs statement.Show p q = (r : Progress) × RunsWaiting p.waiting p r × (q ≡ record r { begun = true; printed = r.printed ++ documents_text (meaning r.content) })
 
 -- a statement that is built was done
 pub record Does (s : Statement) (p q : Progress) : Type 0 where
@@ -119,12 +141,11 @@ pub record IsAt (script : List ℕ) (opening : Progress) (n bytes : ℕ) (left :
   pub taken : taken_by n script ≡ bytes
 
 -- every line of a script was done, and the batch that waited at its end was run
-pub record IsPlayed (script : List ℕ) (opening : Progress) : Type 0 where
+pub record IsPlayed (script : List ℕ) (opening end : Progress) : Type 0 where
   pub count : ℕ
   pub last : Progress
   pub plays : Plays script opening count last
   pub ended : after_lines count script ≡ []
-  pub end : Progress
   pub runs : RunsWaiting last.waiting last end
 
 -- The line that a script is refused at: the first that isn't done. It is refused by its length, by

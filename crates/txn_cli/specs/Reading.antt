@@ -1,13 +1,25 @@
-use Rattle.std.specs.Prelude.{◌≡◌, ◌≤◌, ℕ, Bool, IsTrue, List, ◌++◌, None}
+use Rattle.std.specs.Prelude.{◌≡◌, ◌≢◌, ◌≤◌, ◌++◌, ℕ, Bool, IsTrue, List, None}
 use Rattle.std.specs.FinMap.{empty}
 use Rattle.store_trait.specs.Calls.{CallsGoOn}
 use Rattle.store_trait.specs.Contents.{Content}
-use Rattle.txn_cli.specs.Lines.{LinesView}
-use Rattle.txn_cli.specs.Play.{progress, IsAt}
+use Rattle.txn_io.specs.Lines.{LinesView}
+use Rattle.txn_cli.specs.Play.{Progress, opening, IsAt, IsPlayed, Plays, PlaysLine, RunsWaiting}
+use Rattle.txn_cli.specs.Runs.{GrowsByOne}
+use Rattle.txn_cli.specs.Sessions.{IsHeld, at}
+use Rattle.txn_cli.specs.declared.fault.Fault.{Fault}
+use Rattle.txn_cli.specs.declared.fault.Fault.TheVariants as fault
+use Rattle.txn_cli.specs.Texts.{fault_text}
+use Rattle.txn_cli.specs.declared.done.Run.{Run}
 use Rattle.txn_cli.specs.declared.session.Session.{Session}
 
+-- the first lines of a script were done, up to where the session is, and what they print was written
+pub record HasCome {S : Type 0} (content : S → Content) (script : List ℕ) (start : Progress) (done taken : ℕ) (left : List ℕ) (session : Session S) (sink_tells : Bool) (old_written written : List ℕ) : Type 0 where
+  pub printed : List ℕ
+  pub plays : IsAt script start done taken left (at content session printed)
+  pub writes : IsTrue sink_tells → written ≡ old_written ++ printed
+
 -- What holds between two lines of a script, since the call began: so many lines were done.
-pub record IsReading {S I O : Type 0} (store_tells source_tells : Bool) (content : S → Content) (place : S → ℕ → Content) (calls store_faults : S → ℕ) (rest : I → List ℕ) (source_faults : I → ℕ) (sink_faults : O → ℕ) (old new : Session S) (old_input input : I) (old_output output : O) (lines : LinesView) (done : ℕ) : Type 0 where
+pub record IsReading {S I O : Type 0} (store_tells source_tells sink_tells : Bool) (content : S → Content) (place : S → ℕ → Content) (calls store_faults : S → ℕ) (rest : I → List ℕ) (source_faults : I → ℕ) (written : O → List ℕ) (sink_faults : O → ℕ) (old new : Session S) (old_input input : I) (old_output output : O) (lines : LinesView) (done : ℕ) : Type 0 where
   pub counted : done ≤ lines.taken
   pub within : lines.taken ≤ 268435456
   pub unrefused : lines.fault ≡ None
@@ -15,4 +27,47 @@ pub record IsReading {S I O : Type 0} (store_tells source_tells : Bool) (content
   pub input_later : source_faults old_input ≤ source_faults input
   pub made : CallsGoOn store_tells content place calls store_faults old.store new.store
   pub was_empty : IsTrue store_tells → content old.store ≡ empty → IsTrue new.was_empty
-  pub at : IsTrue source_tells → IsTrue store_tells → content old.store ≡ empty → IsAt (rest old_input) (progress (content old.store) old.batch old.begun) done lines.taken (lines.pending ++ rest input) (progress (content new.store) new.batch new.begun)
+  pub only_empty : IsTrue store_tells → IsTrue new.was_empty → content old.store ≡ empty
+  pub held : IsTrue store_tells → content old.store ≡ empty → IsHeld content place calls new
+  pub come : IsTrue source_tells → IsTrue store_tells → content old.store ≡ empty → HasCome content (rest old_input) (opening (content old.store)) done lines.taken (lines.pending ++ rest input) new sink_tells (written old_output) (written output)
+
+-- a line was done, and what it prints was written
+pub record HasDoneLine {S : Type 0} (content : S → Content) (line : List ℕ) (old new : Session S) (sink_tells : Bool) (old_written written : List ℕ) : Type 0 where
+  pub lines : List ℕ
+  pub plays : (printed : List ℕ) → PlaysLine line (at content old printed) (at content new (printed ++ lines))
+  pub writes : IsTrue sink_tells → written ≡ old_written ++ lines
+
+-- the batch that waited at the end was run, and what that prints was written
+pub record HasRunRest {S : Type 0} (content : S → Content) (old new : Session S) (sink_tells : Bool) (old_written written : List ℕ) : Type 0 where
+  pub lines : List ℕ
+  pub runs : (printed : List ℕ) → RunsWaiting old.batch (at content old printed) (at content new (printed ++ lines))
+  pub writes : IsTrue sink_tells → written ≡ old_written ++ lines
+
+-- every line of a script was done, over a store that holds this now, with these Runs; and what the lines
+-- print was written, in order
+pub record HasPlayed (script : List ℕ) (start : Progress) (content : Content) (runs : List Run) (sink_tells : Bool) (old_written written : List ℕ) : Type 0 where
+  pub end : Progress
+  pub plays : IsPlayed script start end
+  pub holds : end.content ≡ content
+  pub kept : end.runs ≡ runs
+  pub writes : IsTrue sink_tells → written ≡ old_written ++ end.printed
+
+-- some first lines of a script were done, and what they print was written, and nothing else; the Runs
+-- are theirs, and one more where the next line was refused while its batch ran
+pub record HasStopped (script : List ℕ) (start : Progress) (why : Fault) (runs : List Run) (sink_tells : Bool) (old_written written : List ℕ) : Type 0 where
+  pub done : ℕ
+  pub last : Progress
+  pub plays : Plays script start done last
+  pub kept : GrowsByOne last.runs runs
+  pub writes : IsTrue sink_tells → why ≢ fault.Output → written ≡ old_written ++ last.printed
+
+-- Some first lines of a script were done, and the call ended with a refusal: the Runs are theirs, and one
+-- more where the next line was refused while its batch ran; what the lines print was written, and the line
+-- of the refusal. After a fault of the output, or for want of memory, less may be
+-- written.
+pub record HasRefused (script : List ℕ) (start : Progress) (why : Fault) (runs : List Run) (sink_tells : Bool) (old_written written : List ℕ) : Type 0 where
+  pub done : ℕ
+  pub last : Progress
+  pub plays : Plays script start done last
+  pub kept : GrowsByOne last.runs runs
+  pub writes : IsTrue sink_tells → why ≢ fault.Output → why ≢ fault.OutOfMemory → written ≡ old_written ++ (last.printed ++ fault_text why)

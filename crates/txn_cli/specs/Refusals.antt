@@ -1,6 +1,12 @@
-use Rattle.std.specs.Prelude.{ℕ, codes}
+use Rattle.std.specs.Prelude.{ℕ, ◌≤◌, codes}
 use Rattle.txn_cli.specs.declared.fault.Fault.{Fault}
 use Rattle.txn_cli.specs.declared.fault.Fault.TheVariants as fault
+use Rattle.store_trait.specs.Contents.{Content}
+use Rattle.store_trait.specs.Edits.{nonce_limit}
+use Rattle.store_trait.specs.View.{counter}
+use Rattle.txn_cli.specs.Settling.{IsRevnoSpent}
+use Rattle.txn_cli.specs.declared.fault.StepError.{StepError}
+use Rattle.txn_cli.specs.declared.fault.StepError.TheVariants as step
 
 -- a line of the script was refused
 abbrev pub IsOfLine : Fault → Type 0
@@ -39,3 +45,17 @@ IsOfWork fault.Words = ⊥
 IsOfWork fault.Input = ⊥
 IsOfWork fault.Output = ⊥
 IsOfWork _ = Unit {0}
+
+-- nonces, or the numbers of a document, are used up
+abbrev pub IsUsedUp : Content → StepError → Type 0
+IsUsedUp c step.NoncesSpent = nonce_limit ≤ counter c
+IsUsedUp c (step.RevnoSpent key) = IsRevnoSpent c key
+IsUsedUp c _ = ⊥
+
+-- Why the run of a batch may be refused, over a store that tells what it holds: it is never that a
+-- record was missing, or another one than was written.
+abbrev pub HasReason : Content → Fault → Type 0
+HasReason c (fault.Spent error) = IsUsedUp c error
+HasReason c (fault.Broken error) = ⊥
+HasReason c (fault.Repeated id) = ⊥
+HasReason c _ = Unit {0}

@@ -11,8 +11,12 @@ use Rattle.txn_record.specs.Documents.{Docs}
 use Rattle.txn_record.specs.Ids.{id_text, token_text}
 use Rattle.txn_record.specs.declared.id.TxnId.{TxnId}
 use Rattle.txn_record.specs.declared.key.Key.{Key}
-use Rattle.txn_record.specs.declared.entry.Outcome.{Outcome}
-use Rattle.txn_record.specs.declared.entry.Outcome.TheVariants as outcome
+use Rattle.txn_record.specs.declared.state.State.{State}
+use Rattle.txn_record.specs.declared.state.State.TheVariants as state
+use Rattle.txn_cli.specs.declared.fault.Fault.{Fault}
+use Rattle.txn_cli.specs.declared.fault.Fault.TheVariants as fault
+use Rattle.txn_cli.specs.declared.fault.StepError.{StepError}
+use Rattle.txn_cli.specs.declared.fault.StepError.TheVariants as step
 
 abbrev pub line : List ℕ → List ℕ
 line text = text ++ 10 ∷ []
@@ -29,9 +33,39 @@ document_line doc = line (quoted doc.0.c ++ codes " " ++ id_json doc.0.d ++ code
 abbrev pub documents_text : Docs → List ℕ
 documents_text docs = flat_map document_line (entries docs)
 
-abbrev pub outcome_word : Outcome → List ℕ
-outcome_word outcome.Applied = codes "applied"
-outcome_word outcome.Aborted = codes "aborted"
+abbrev pub state_word : State → List ℕ
+state_word state.Preparing = codes "preparing"
+state_word state.Prepared = codes "prepared"
+state_word state.Aborting = codes "aborting"
+state_word state.Applying = codes "applying"
+state_word state.Aborted = codes "aborted"
+state_word state.Applied = codes "applied"
 
-abbrev pub outcome_line : TxnId → Outcome → List ℕ
-outcome_line id outcome = line (id_text id ++ codes " " ++ outcome_word outcome)
+-- the line of a transaction: its id, a blank and the word of its record's state
+abbrev pub state_line : TxnId → State → List ℕ
+state_line id state = line (id_text id ++ codes " " ++ state_word state)
+
+-- ---- the last line of a refusal
+
+abbrev pub usage_text : List ℕ
+usage_text = codes "usage: txn run [--db FILE] [--log FILE] | txn race [--log FILE] | txn grind N [--db FILE] [--log FILE]\n"
+
+abbrev pub step_text : StepError → List ℕ
+step_text step.StoreFault = codes "store fault\n"
+step_text step.NoncesSpent = codes "nonces spent\n"
+step_text (step.RevnoSpent key) = line (codes "revno spent at doc " ++ quoted key.c ++ codes " " ++ id_json key.d)
+step_text (step.Lost token) = line (codes "lost " ++ token_text token)
+step_text (step.Clash id at) = line (codes "clash " ++ id_text id)
+step_text step.OutOfMemory = codes "out of memory\n"
+
+-- a fault of the output has none
+abbrev pub fault_text : Fault → List ℕ
+fault_text fault.Words = usage_text
+fault_text (fault.Line number text) = line (codes "line " ++ decimal number ++ codes ": " ++ text)
+fault_text fault.Store = codes "store fault\n"
+fault_text fault.Input = codes "input fault\n"
+fault_text fault.Output = []
+fault_text fault.OutOfMemory = codes "out of memory\n"
+fault_text (fault.Spent error) = step_text error
+fault_text (fault.Broken error) = step_text error
+fault_text (fault.Repeated id) = line (codes "clash " ++ id_text id)

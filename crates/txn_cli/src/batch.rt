@@ -1,7 +1,8 @@
 //! The transactions that wait for the next `go`.
 
 ghost use Rattle.std.specs.Prelude.{◌≡◌, ◌==◌, [], ◌∷◌, ◌++◌, ◌↔◌, length, nat_le, IsTrue, OnOk, OnErr};
-ghost use Rattle.txn_cli.specs.Play.{most_waiting, waits};
+ghost use Rattle.txn_cli.specs.Batches.{waits};
+ghost use Rattle.txn_cli.specs.Play.{most_waiting};
 
 use crate::waiting::Waiting;
 use doc_value::OutOfMemory;

@@ -1,23 +1,28 @@
 //! The top call.
 
-ghost use Rattle.std.specs.Prelude.{◌≡◌, [], ◌≢◌, ◌≤◌, ◌⊎◌, ℕ, true, false, IsTrue, OnOk, OnErr, IfOk, IfErr, IfSome, IfNone, IsErrOf, map, string_bytes, if◌then◌else◌};
+ghost use Rattle.std.specs.Prelude.{◌≡◌, [], ◌≢◌, ◌≤◌, ◌⊎◌, ℕ, Err, true, false, IsTrue, OnOk, OnErr, IfOk, IfErr, IfSome, IfNone, IsErrOf, map, string_bytes, ◌++◌, if◌then◌else◌};
 ghost use Rattle.std.specs.FinMap.{empty};
 ghost use Rattle.std.specs.List.{list_any};
 ghost use Rattle.store_trait.specs.Calls.{CallsGoOn, Rose};
+ghost use Rattle.store_trait.specs.Contents.{Content};
 ghost use Rattle.txn_cli.specs.Faulting.{status_of, fault_of_line};
 ghost use Rattle.txn_cli.specs.Outcomes.{has_aborted, is_aborted};
-ghost use Rattle.txn_cli.specs.Play.{progress, IsPlayed, Refuses, PlaysLine, IsRefused, RunsWaiting, is_grammar};
-ghost use Rattle.txn_cli.specs.Refusals.{IsOfLine, IsOfStatement, IsOfReading, not_built};
+ghost use Rattle.txn_cli.specs.Play.{opening, Refuses, IsRefused, is_grammar};
+ghost use Rattle.txn_cli.specs.Reading.{HasDoneLine, HasRunRest, HasPlayed, HasStopped, HasRefused};
+ghost use Rattle.txn_cli.specs.Refusals.{HasReason, IsOfLine, IsOfStatement, IsOfReading, not_built};
+ghost use Rattle.txn_cli.specs.Runs.{AreFaithful, GrowsByOne, RunsGoOn};
+ghost use Rattle.txn_cli.specs.Sessions.{IsHeld, at};
+ghost use Rattle.txn_cli.specs.Texts.{fault_text};
 
 use crate::batch::Batch;
 use crate::done::{Done, Run};
 use crate::fault::{Fault, refused};
-use crate::io::{LineFault, Lines, Sink, Source, pour};
 use crate::print::last_line;
 use crate::session::Session;
 use crate::statement::{ScriptFault, read_line};
 use std::alloc::Global;
 use store_trait::{Store, StoreError};
+use txn_io::{LineFault, Lines, Sink, Source, pour};
 use txn_record::{Entry, Outcome};
 
 /// Plays the script of the input, where the words are the single word `run`.
@@ -41,11 +46,24 @@ pub fn command<S: Store, I: Source, O: Sink>(
         (result.status ≡ 2) ⊎ (result.status ≡ 7) ⊎ (result.status ≡ 8) }
 
     // Over a source and a store that tell, the store empty as the call begins: 0 and 1 say that each
-    // line was read and done, and 3 that the line it names is the first that is refused.
+    // line was read and done, and what all print was written; 3 that the line it names is the first that
+    // is refused; and any refusal that the lines before it were done.
     ensures played { IsTrue I.tells → IsTrue S.tells → S.content store ≡ empty → IfNone result.fault
-        (IsPlayed (I.rest input.old) (progress (S.content store) [] false)) }
+        (HasPlayed (I.rest input.old) (opening (S.content store))
+        (S.content result.store) result.runs.items O.tells (O.written output.old) (O.written output.new)) }
     ensures line { IsTrue I.tells → IsTrue S.tells → S.content store ≡ empty → IfSome result.fault
-        (λ fault. IsOfLine fault → Refuses (I.rest input.old) (progress (S.content store) [] false) fault) }
+        (λ fault. IsOfLine fault → Refuses (I.rest input.old) (opening (S.content store)) fault) }
+    ensures refused { IsTrue I.tells → IsTrue S.tells → S.content store ≡ empty → IfSome result.fault
+        (λ fault. HasRefused (I.rest input.old) (opening (S.content store))
+        fault result.runs.items O.tells (O.written output.old) (O.written output.new)) }
+
+    // However the call ended, each Run is faithful up to the mark of the next, or to the last call: at
+    // every place of the trail the store is sound and means the Run's base after the decisions so far.
+    ensures runs { IsTrue S.tells → S.content store ≡ empty →
+        AreFaithful (S.place result.store) result.runs.items (S.calls result.store) }
+
+    // 9 comes only where nonces or revision numbers are used up, and 11 never over a store that tells.
+    ensures reason { IsTrue S.tells → S.content store ≡ empty → IfSome result.fault (HasReason (S.content result.store)) }
 
     // 5, 6 and 7 come only where the store, the input or the output counted a fault in this call.
     ensures store { result.fault ≡ Some Fault.Store → Rose (S.faults store) (S.faults result.store) }
@@ -60,11 +78,7 @@ pub fn command<S: Store, I: Source, O: Sink>(
         begun: false,
         was_empty: true,
     };
-    let played = if is_run(words) {
-        play(alloc, &mut session, input, output)
-    } else {
-        Err(Fault::Words)
-    };
+    let played = run(alloc, words, &mut session, input, output);
     let Session {
         store,
         runs,
@@ -89,6 +103,40 @@ pub fn command<S: Store, I: Source, O: Sink>(
             }
         }
     }
+}
+
+/// Plays the input, where the words are in the grammar.
+fn run<S: Store, I: Source, O: Sink>(
+    alloc: Global,
+    words: &[String],
+    session: &mut Session<S>,
+    input: &mut I,
+    output: &mut O,
+) -> Result<(), Fault>
+    requires begins { at S.content session.old [] ≡ opening (S.content session.old.store) }
+    ensures words { IsTrue (is_grammar (map string_bytes words.now)) → IfErr result (λ fault. fault ≢ Fault.Words) }
+    ensures usage { is_grammar (map string_bytes words.now) ≡ false → result ≡ Err Fault.Words }
+    ensures played { IsTrue I.tells → IsTrue S.tells → S.content session.old.store ≡ empty → OnOk result
+        (HasPlayed (I.rest input.old) (opening (S.content session.old.store))
+        (S.content session.new.store) session.new.runs.items O.tells (O.written output.old) (O.written output.new)) }
+    ensures line { IsTrue I.tells → IsTrue S.tells → S.content session.old.store ≡ empty → IfErr result
+        (λ fault. IsOfLine fault → Refuses (I.rest input.old) (opening (S.content session.old.store)) fault) }
+    ensures stopped { IsTrue I.tells → IsTrue S.tells → S.content session.old.store ≡ empty → IfErr result
+        (λ fault. HasStopped (I.rest input.old) (opening (S.content session.old.store))
+        fault session.new.runs.items O.tells (O.written output.old) (O.written output.new)) }
+    ensures runs { IsTrue S.tells → S.content session.old.store ≡ empty →
+        RunsGoOn (S.place session.new.store) session.new.runs.items (S.calls session.new.store) }
+    ensures reason { IsTrue S.tells → S.content session.old.store ≡ empty → IfErr result (HasReason (S.content session.new.store)) }
+    ensures store { IsErrOf result Fault.Store → Rose (S.faults session.old.store) (S.faults session.new.store) }
+    ensures input { IsErrOf result Fault.Input → Rose (I.faults input.old) (I.faults input.new) }
+    ensures output { IsErrOf result Fault.Output → Rose (O.faults output.old) (O.faults output.new) }
+    ensures calls { CallsGoOn S.tells S.content S.place S.calls S.faults session.old.store session.new.store }
+    ensures later { O.faults output.old ≤ O.faults output.new }
+{
+    if !is_run(words) {
+        return Err(Fault::Words);
+    }
+    play(alloc, session, input, output)
 }
 
 /// The words are in the grammar of this stage: the one word `run`.
@@ -140,11 +188,18 @@ fn play<S: Store, I: Source, O: Sink>(
     input: &mut I,
     output: &mut O,
 ) -> Result<(), Fault>
+    requires begins { at S.content session.old [] ≡ opening (S.content session.old.store) }
     ensures played { IsTrue I.tells → IsTrue S.tells → S.content session.old.store ≡ empty → OnOk result
-        (IsPlayed (I.rest input.old) (progress (S.content session.old.store) session.old.batch session.old.begun)) }
+        (HasPlayed (I.rest input.old) (opening (S.content session.old.store))
+        (S.content session.new.store) session.new.runs.items O.tells (O.written output.old) (O.written output.new)) }
     ensures line { IsTrue I.tells → IsTrue S.tells → S.content session.old.store ≡ empty → IfErr result
-        (λ fault. IsOfLine fault → Refuses (I.rest input.old)
-        (progress (S.content session.old.store) session.old.batch session.old.begun) fault) }
+        (λ fault. IsOfLine fault → Refuses (I.rest input.old) (opening (S.content session.old.store)) fault) }
+    ensures stopped { IsTrue I.tells → IsTrue S.tells → S.content session.old.store ≡ empty → IfErr result
+        (λ fault. HasStopped (I.rest input.old) (opening (S.content session.old.store))
+        fault session.new.runs.items O.tells (O.written output.old) (O.written output.new)) }
+    ensures runs { IsTrue S.tells → S.content session.old.store ≡ empty →
+        RunsGoOn (S.place session.new.store) session.new.runs.items (S.calls session.new.store) }
+    ensures reason { IsTrue S.tells → S.content session.old.store ≡ empty → IfErr result (HasReason (S.content session.new.store)) }
     ensures words { IfErr result (λ fault. fault ≢ Fault.Words) }
     ensures store { IsErrOf result Fault.Store → Rose (S.faults session.old.store) (S.faults session.new.store) }
     ensures input { IsErrOf result Fault.Input → Rose (I.faults input.old) (I.faults input.new) }
@@ -168,6 +223,7 @@ fn play<S: Store, I: Source, O: Sink>(
 /// Whether the store has no cell.
 fn is_empty<S: Store>(alloc: Global, store: &mut S) -> Result<bool, Fault>
     ensures empty { IsTrue S.tells → S.content store.old ≡ empty → IfOk result (λ answer. answer ≡ true) }
+    ensures only { IsTrue S.tells → IfOk result (λ answer. answer ≡ true → S.content store.old ≡ empty) }
     ensures same { IsTrue S.tells → S.content store.new ≡ S.content store.old }
     ensures calls { CallsGoOn S.tells S.content S.place S.calls S.faults store.old store.new }
     ensures fault { IsErrOf result Fault.Store → Rose (S.faults store.old) (S.faults store.new) }
@@ -189,11 +245,17 @@ fn play_line<S: Store, O: Sink>(
     number: u64,
     line: &[u8],
 ) -> Result<(), Fault>
+    requires held { IsTrue S.tells → IsTrue session.old.was_empty → IsHeld S.content S.place S.calls session.old }
     ensures done { IsTrue S.tells → IsTrue session.old.was_empty → OnOk result
-        (PlaysLine line.now (progress (S.content session.old.store) session.old.batch session.old.begun)
-        (progress (S.content session.new.store) session.new.batch session.new.begun)) }
+        (HasDoneLine S.content line.now session.old session.new O.tells (O.written output.old) (O.written output.new)) }
+    ensures held { IsTrue S.tells → IsTrue session.old.was_empty → OnOk result (IsHeld S.content S.place S.calls session.new) }
+    ensures runs { IsTrue S.tells → IsTrue session.old.was_empty →
+        RunsGoOn (S.place session.new.store) session.new.runs.items (S.calls session.new.store) }
+    ensures grown { GrowsByOne session.old.runs.items session.new.runs.items }
+    ensures reason { IsTrue S.tells → IsTrue session.old.was_empty → IfErr result (HasReason (S.content session.new.store)) }
+    ensures unwritten { IsTrue O.tells → IfErr result (λ fault. fault ≢ Fault.Output → O.written output.new ≡ O.written output.old) }
     ensures refused { IsTrue S.tells → IsTrue session.old.was_empty → IfErr result (λ fault. IsOfLine fault →
-        IsRefused line.now (progress (S.content session.old.store) session.old.batch session.old.begun)) }
+        IsRefused line.now (at S.content session.old [])) }
     ensures text { IfErr result (λ fault. IsOfLine fault → fault ≡ not_built number) }
     ensures kind { IfErr result IsOfStatement }
     ensures kept { session.new.was_empty ≡ session.old.was_empty }
@@ -220,9 +282,14 @@ fn finish<S: Store, O: Sink>(
     output: &mut O,
     number: u64,
 ) -> Result<(), Fault>
+    requires held { IsTrue S.tells → IsTrue session.old.was_empty → IsHeld S.content S.place S.calls session.old }
     ensures done { IsTrue S.tells → IsTrue session.old.was_empty → OnOk result
-        (RunsWaiting session.old.batch (progress (S.content session.old.store) session.old.batch session.old.begun)
-        (progress (S.content session.new.store) session.new.batch session.new.begun)) }
+        (HasRunRest S.content session.old session.new O.tells (O.written output.old) (O.written output.new)) }
+    ensures runs { IsTrue S.tells → IsTrue session.old.was_empty →
+        RunsGoOn (S.place session.new.store) session.new.runs.items (S.calls session.new.store) }
+    ensures grown { GrowsByOne session.old.runs.items session.new.runs.items }
+    ensures reason { IsTrue S.tells → IsTrue session.old.was_empty → IfErr result (HasReason (S.content session.new.store)) }
+    ensures unwritten { IsTrue O.tells → IfErr result (λ fault. fault ≢ Fault.Output → O.written output.new ≡ O.written output.old) }
     ensures never { IsTrue session.old.was_empty → IfErr result (λ fault. IsOfLine fault → ⊥) }
     ensures kind { IfErr result IsOfStatement }
     ensures store { IsErrOf result Fault.Store → Rose (S.faults session.old.store) (S.faults session.new.store) }
@@ -235,6 +302,7 @@ fn finish<S: Store, O: Sink>(
 }
 
 fn write<O: Sink>(output: &mut O, bytes: &[u8]) -> Result<(), Fault>
+    ensures whole { IsTrue O.tells → OnOk result (O.written output.new ≡ O.written output.old ++ bytes.now) }
     ensures kind { IfErr result (λ fault. fault ≡ Fault.Output) }
     ensures output { OnErr result (Rose (O.faults output.old) (O.faults output.new)) }
     ensures later { O.faults output.old ≤ O.faults output.new }
@@ -250,6 +318,7 @@ fn line_fault(alloc: Global, number: u64, fault: LineFault) -> Fault
     ensures exact { result ≢ Fault.OutOfMemory → result ≡ fault_of_line number fault }
     ensures input { result ≡ Fault.Input → fault ≡ LineFault.ReadFault }
     ensures kind { IsOfReading result }
+    ensures reason { (c : Content) → HasReason c result }
 {
     match fault {
         LineFault::ReadFault => Fault::Input,
@@ -264,6 +333,8 @@ fn line_fault(alloc: Global, number: u64, fault: LineFault) -> Fault
 fn tell<O: Sink>(alloc: Global, output: &mut O, fault: Fault) -> Fault
     ensures kept { (result ≡ fault) ⊎ (result ≡ Fault.OutOfMemory)
         ⊎ ((result ≡ Fault.Output) × Rose (O.faults output.old) (O.faults output.new)) }
+    ensures told { IsTrue O.tells → result ≢ Fault.Output → result ≢ Fault.OutOfMemory →
+        O.written output.new ≡ O.written output.old ++ fault_text result }
     ensures later { O.faults output.old ≤ O.faults output.new }
 {
     let Ok(line) = last_line(alloc, &fault) else {

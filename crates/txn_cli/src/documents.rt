@@ -1,62 +1,119 @@
 //! The documents of a store, by one call for each and one more.
 
-ghost use Rattle.std.specs.Prelude.{◌≡◌, Some, IsTrue, IfOk, IfSome, IsErrOf};
+ghost use Rattle.std.specs.Prelude.{◌≡◌, ◌++◌, IsTrue, IfOk, OnOk, IfErr, IsErrOf};
+ghost use Rattle.std.specs.List.{flat_map};
+ghost use Rattle.txn_record.specs.Documents.{pairs_of};
 ghost use Rattle.store_trait.specs.Calls.{CallsGoOn, OneCall, Rose};
-ghost use Rattle.store_trait.specs.Contents.{is_past};
-ghost use Rattle.store_trait.specs.declared.name.Name.TheVariants as name;
+ghost use Rattle.store_trait.specs.Contents.{Content};
+ghost use Rattle.store_trait.specs.Meaning.{bodies};
+ghost use Rattle.store_laws.specs.Plain.{IsPlain};
+ghost use Rattle.txn_cli.specs.Listing.{StandsPast, IsNext, next_as};
+ghost use Rattle.txn_cli.specs.Causes.{IsOfStore};
+ghost use Rattle.txn_cli.specs.Refusals.{HasReason, IsOfRun};
+ghost use Rattle.txn_cli.specs.Running.{OnlyReads};
+ghost use Rattle.txn_cli.specs.Texts.{document_line, documents_text};
 
-use crate::fault::StepError;
+use crate::fault::{Fault, StepError, fault_of};
+use crate::print::push_document;
+use doc_value::OutOfMemory;
 use std::alloc::Global;
+use store_laws::bodies_as_they_lie;
 use store_trait::{Cell, Name, Named, Store, StoreError};
 use txn_record::{Doc, Docs, TxnId, documents_rise};
 
-/// The documents, in the order of their keys. Records come before them in the order of names, and are
-/// passed over by the first call.
-pub fn list_documents<S: Store>(alloc: Global, store: &mut S) -> Result<Docs, StepError>
+/// Prints the documents of the store, in the order of their keys.
+pub fn push_documents<S: Store>(
+    alloc: Global,
+    store: &mut S,
+    lines: &mut Vec<u8>,
+) -> Result<(), Fault>
+    ensures printed { IsTrue S.tells → IsPlain (S.content store.old) → OnOk result
+        (lines.new.items ≡ lines.old.items ++ documents_text (bodies (S.content store.old))) }
+    ensures reads { IsTrue S.tells → OnlyReads S.content S.place S.calls store.old store.new }
+    ensures reason { (c : Content) → IfErr result (HasReason c) }
+    ensures kind { IfErr result IsOfRun }
     ensures calls { CallsGoOn S.tells S.content S.place S.calls S.faults store.old store.new }
-    ensures same { IsTrue S.tells → S.content store.new ≡ S.content store.old }
+    ensures fault { IsErrOf result Fault.Store → Rose (S.faults store.old) (S.faults store.new) }
+{
+    let docs = match list_documents(alloc, store) {
+        Ok(docs) => docs,
+        Err(error) => return Err(fault_of(error)),
+    };
+    push_lines(lines, docs.as_slice())?;
+    Ok(())
+}
+
+/// A line for each document, in their order.
+fn push_lines(lines: &mut Vec<u8>, docs: &[Doc]) -> Result<(), OutOfMemory>
+    ensures { OnOk result (lines.new.items ≡ lines.old.items ++ flat_map document_line (pairs_of docs.now)) }
+{
+    for doc in docs {
+        push_document(lines, doc)?;
+    }
+    Ok(())
+}
+
+/// The documents, in the order of their keys.
+pub fn list_documents<S: Store>(alloc: Global, store: &mut S) -> Result<Docs, StepError>
+    ensures listed { IsTrue S.tells → IsPlain (S.content store.old) → IfOk result (λ docs. docs ≡ bodies (S.content store.old)) }
+    ensures reads { IsTrue S.tells → OnlyReads S.content S.place S.calls store.old store.new }
+    ensures kind { IfErr result IsOfStore }
+    ensures calls { CallsGoOn S.tells S.content S.place S.calls S.faults store.old store.new }
     ensures fault { IsErrOf result StepError.StoreFault → Rose (S.faults store.old) (S.faults store.new) }
 {
     documents_rise();
+    bodies_as_they_lie();
     let mut docs = Docs::new(alloc);
+    // Records come before documents in the order of names. The greatest id passes over all of them.
     let mut after = Name::Record(TxnId([255; 12]));
     for _ in 0..u64::MAX {
-        let Some(doc) = next_document(alloc, store, &after)? else {
-            break;
-        };
-        after = Name::Doc(doc.key.copy(alloc)?);
-        docs.push(doc)?;
+        match next_listed(alloc, store, &after)? {
+            Next::Document(doc) => {
+                after = Name::Doc(doc.key.copy(alloc)?);
+                docs.push(doc)?;
+            }
+            Next::Record(id) => after = Name::Record(id),
+            Next::End => return Ok(docs),
+        }
     }
-    Ok(docs)
+    // So many documents are more than memory holds.
+    Err(StepError::OutOfMemory)
 }
 
-/// The first document past a name, or None where what comes next is none.
-fn next_document<S: Store>(
-    alloc: Global,
-    store: &mut S,
-    after: &Name,
-) -> Result<Option<Doc>, StepError>
-    ensures past { IfOk result (λ found. IfSome found (λ doc. IsTrue (is_past (Some after.now) (name.Doc doc.key)))) }
+/// What comes past a name, where documents are listed.
+#[derive(Drop)]
+enum Next {
+    Document(Doc),
+    Record(TxnId),
+    /// Nothing, or a cell that all documents come before.
+    End,
+}
+
+fn next_listed<S: Store>(alloc: Global, store: &mut S, after: &Name) -> Result<Next, StepError>
+    ensures past { IfOk result (StandsPast after.now) }
+    ensures found { IsTrue S.tells → IfOk result (IsNext (S.content store.old) after.now) }
     ensures same { IsTrue S.tells → S.content store.new ≡ S.content store.old }
+    ensures kind { IfErr result IsOfStore }
     ensures call { OneCall S.tells S.content S.place S.calls S.faults store.old store.new result StepError.StoreFault }
 {
     match store.next(alloc, Some(after)) {
-        Ok(None) => Ok(None),
-        Ok(Some(named)) => Ok(into_document(named)),
+        Ok(None) => Ok(Next::End),
+        Ok(Some(named)) => Ok(into_next(named)),
         Err(StoreError::Failed) => Err(StepError::StoreFault),
         Err(StoreError::OutOfMemory) => Err(StepError::OutOfMemory),
     }
 }
 
-fn into_document(named: Named) -> Option<Doc>
-    ensures { IfSome result (λ doc. named.name ≡ name.Doc doc.key) }
+fn into_next(named: Named) -> Next
+    ensures { result ≡ next_as named.name named.cell }
 {
     let Named { name, cell } = named;
     match (name, cell) {
-        (Name::Doc(key), Cell::Doc(doc)) => Some(Doc {
+        (Name::Doc(key), Cell::Doc(doc)) => Next::Document(Doc {
             key,
             body: doc.body,
         }),
-        _ => None,
+        (Name::Record(id), _) => Next::Record(id),
+        _ => Next::End,
     }
 }

@@ -2,7 +2,9 @@
 
 ghost use Rattle.std.specs.Prelude.{◌≡◌, ◌⊎◌, ◌↔◌, IsTrue};
 ghost use Rattle.txn_cli.specs.Faulting.{status_of, fault_of_step};
-ghost use Rattle.txn_cli.specs.Refusals.{IsOfRun};
+ghost use Rattle.store_trait.specs.Contents.{Content};
+ghost use Rattle.txn_cli.specs.Refusals.{HasReason, IsOfRun};
+ghost use Rattle.txn_cli.specs.Settling.{MayStop};
 
 use doc_value::Text;
 use std::alloc::{AllocError, Global};
@@ -126,6 +128,7 @@ impl From<StoreError> for Fault {
 pub fn fault_of(error: StepError) -> Fault
     ensures exact { result ≡ fault_of_step error }
     ensures kind { IsOfRun result }
+    ensures reason { (c : Content) → MayStop c error → HasReason c result }
     ensures store { result ≡ Fault.Store → error ≡ StepError.StoreFault }
 {
     match error {

@@ -1,15 +1,19 @@
 //! How a batch is run.
 
-ghost use Rattle.std.specs.Prelude.{◌≡◌, IfErr, IsErrOf};
+ghost use Rattle.std.specs.Prelude.{List, IsTrue, IfOk, IfErr, OnOk, IsErrOf};
 ghost use Rattle.store_trait.specs.Calls.{CallsGoOn, Rose};
-ghost use Rattle.txn_cli.specs.Refusals.{IsOfRun};
+ghost use Rattle.txn_cli.specs.Batches.{MayRun, IsCalm, IsBegun, IsDoneWith, WorksOnBatch};
+ghost use Rattle.txn_cli.specs.Play.{HasRunBatch};
+ghost use Rattle.txn_cli.specs.Refusals.{IsOfRun, HasReason};
+ghost use Rattle.txn_cli.specs.Runs.{GrowsByOne, RunsGoOn};
+ghost use Rattle.txn_record.specs.declared.entry.Entry.{Entry as LogEntry};
 
 use crate::documents::list_documents;
 use crate::done::Run;
 use crate::fault::{Fault, fault_of};
 use crate::print::push_outcome;
 use crate::settle::settle;
-use crate::steps;
+use crate::steps::submit;
 use crate::waiting::Waiting;
 use sqlite_items::Items;
 use std::alloc::Global;
@@ -24,9 +28,17 @@ pub fn run_batch<S: Store>(
     runs: &mut Vec<Run>,
     batch: &[Waiting],
 ) -> Result<Vec<u8>, Fault>
+    requires may_run { IsTrue S.tells → MayRun (S.content store.old) batch.now }
+    requires runs { IsTrue S.tells → RunsGoOn (S.place store.old) runs.old.items (S.calls store.old) }
+    ensures runs { IsTrue S.tells → RunsGoOn (S.place store.new) runs.new.items (S.calls store.new) }
+    ensures done { IsTrue S.tells → IfOk result
+        (λ lines. HasRunBatch (S.content store.old) (S.content store.new) batch.now runs.old.items runs.new.items lines.items) }
+    ensures calm { IsTrue S.tells → OnOk result (IsCalm (S.content store.new)) }
+    ensures grown { GrowsByOne runs.old.items runs.new.items }
+    ensures reason { IsTrue S.tells → IfErr result (HasReason (S.content store.new)) }
+    ensures kind { IfErr result IsOfRun }
     ensures calls { CallsGoOn S.tells S.content S.place S.calls S.faults store.old store.new }
     ensures fault { IsErrOf result Fault.Store → Rose (S.faults store.old) (S.faults store.new) }
-    ensures kind { IfErr result IsOfRun }
 {
     runs.reserve(1)?;
     let base = match list_documents(alloc, store) {
@@ -54,11 +66,58 @@ fn run_all<S: Store>(
     order: &mut Vec<Entry>,
     batch: &[Waiting],
 ) -> Result<Vec<u8>, Fault>
+    requires may_run { IsTrue S.tells → MayRun (S.content store.old) batch.now }
+    ensures works { IsTrue S.tells →
+        WorksOnBatch S.content S.place S.calls store.old store.new order.old.items order.new.items batch.now }
+    ensures done { IsTrue S.tells → IfOk result (λ lines. IsDoneWith (S.content store.new) batch.now lines.items) }
+    ensures reason { IsTrue S.tells → IfErr result (HasReason (S.content store.new)) }
+    ensures kind { IfErr result IsOfRun }
     ensures calls { CallsGoOn S.tells S.content S.place S.calls S.faults store.old store.new }
     ensures fault { IsErrOf result Fault.Store → Rose (S.faults store.old) (S.faults store.new) }
-    ensures kind { IfErr result IsOfRun }
 {
-    submit_all(alloc, store, batch)?;
+    match submit_all(alloc, store, batch) {
+        Ok(()) => settle_all(alloc, store, order, batch),
+        Err(fault) => Err(fault),
+    }
+}
+
+/// Puts the record of each transaction into the store.
+fn submit_all<S: Store>(alloc: Global, store: &mut S, batch: &[Waiting]) -> Result<(), Fault>
+    requires may_run { IsTrue S.tells → MayRun (S.content store.old) batch.now }
+    ensures works { IsTrue S.tells → (order : List LogEntry) →
+        WorksOnBatch S.content S.place S.calls store.old store.new order order batch.now }
+    ensures begun { IsTrue S.tells → OnOk result (IsBegun (S.content store.new) batch.now) }
+    ensures reason { IsTrue S.tells → IfErr result (HasReason (S.content store.new)) }
+    ensures kind { IfErr result IsOfRun }
+    ensures calls { CallsGoOn S.tells S.content S.place S.calls S.faults store.old store.new }
+    ensures fault { IsErrOf result Fault.Store → Rose (S.faults store.old) (S.faults store.new) }
+{
+    for txn in batch {
+        match submit(alloc, store, txn) {
+            Ok(true) => {}
+            Ok(false) => return Err(Fault::Repeated(txn.id)),
+            Err(error) => return Err(fault_of(error)),
+        }
+    }
+    Ok(())
+}
+
+/// Settles one transaction after the other.
+fn settle_all<S: Store>(
+    alloc: Global,
+    store: &mut S,
+    order: &mut Vec<Entry>,
+    batch: &[Waiting],
+) -> Result<Vec<u8>, Fault>
+    requires begun { IsTrue S.tells → IsBegun (S.content store.old) batch.now }
+    ensures works { IsTrue S.tells →
+        WorksOnBatch S.content S.place S.calls store.old store.new order.old.items order.new.items batch.now }
+    ensures done { IsTrue S.tells → IfOk result (λ lines. IsDoneWith (S.content store.new) batch.now lines.items) }
+    ensures reason { IsTrue S.tells → IfErr result (HasReason (S.content store.new)) }
+    ensures kind { IfErr result IsOfRun }
+    ensures calls { CallsGoOn S.tells S.content S.place S.calls S.faults store.old store.new }
+    ensures fault { IsErrOf result Fault.Store → Rose (S.faults store.old) (S.faults store.new) }
+{
     let mut lines = Vec::new(alloc);
     for txn in batch {
         match settle(alloc, store, order, txn) {
@@ -67,19 +126,4 @@ fn run_all<S: Store>(
         }
     }
     Ok(lines)
-}
-
-fn submit_all<S: Store>(alloc: Global, store: &mut S, batch: &[Waiting]) -> Result<(), Fault>
-    ensures calls { CallsGoOn S.tells S.content S.place S.calls S.faults store.old store.new }
-    ensures fault { IsErrOf result Fault.Store → Rose (S.faults store.old) (S.faults store.new) }
-    ensures kind { IfErr result IsOfRun }
-{
-    for txn in batch {
-        match steps::insert_record(alloc, store, txn) {
-            Ok(true) => {}
-            Ok(false) => return Err(Fault::Repeated(txn.id)),
-            Err(error) => return Err(fault_of(error)),
-        }
-    }
-    Ok(())
 }

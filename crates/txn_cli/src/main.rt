@@ -6,27 +6,30 @@
 #![tactic(auto)]
 
 mod batch;
+mod calls;
 mod command;
 mod documents;
 mod done;
 mod fault;
 mod go;
-mod io;
 mod places;
 mod print;
 mod session;
 mod settle;
+mod stage;
 mod statement;
 mod steps;
 mod waiting;
 
 use command::command;
-use io::{Sink, StdSink, StdSource};
 use std::env;
 use std::io::ErrorKind;
 use std::process::ExitCode;
 use store_memory::MemoryStore;
+use txn_io::{Sink, StdSink, StdSource};
 
+#[cfg(test)]
+mod silent;
 #[cfg(test)]
 mod tests;
 

@@ -6,7 +6,10 @@ ghost use Rattle.std.specs.FinMap.{get, insert};
 ghost use Rattle.std.specs.List.{list_all};
 ghost use Rattle.store_trait.specs.Calls.{CallsGoOn, Rose};
 ghost use Rattle.store_trait.specs.declared.name.Name.TheVariants.{Doc};
-ghost use Rattle.txn_cli.specs.Play.{has_document, has_record, placed_doc};
+ghost use Rattle.txn_cli.specs.Play.{placed_doc};
+ghost use Rattle.txn_cli.specs.Batches.{IsCalm};
+ghost use Rattle.txn_cli.specs.Running.{OnlyReads};
+ghost use Rattle.txn_cli.specs.Store.{has_document, has_record};
 
 use crate::fault::Fault;
 use doc_value::Value;
@@ -25,6 +28,7 @@ pub fn place_document<S: Store>(
     ensures absent { IsTrue S.tells → IfOk result (λ placed. placed ≡ not (has_document (S.content store.old) key)) }
     ensures made { IsTrue S.tells → IfOk result
         (λ placed. OnTrue placed (S.content store.new ≡ insert (S.content store.old) (Doc key) (placed_doc body))) }
+    ensures calm { IsTrue S.tells → IsCalm (S.content store.old) → IsCalm (S.content store.new) }
     ensures calls { CallsGoOn S.tells S.content S.place S.calls S.faults store.old store.new }
     ensures fault { IsErrOf result Fault.Store → Rose (S.faults store.old) (S.faults store.new) }
     ensures other { OnErr result ((result ≡ Err Fault.Store) ⊎ (result ≡ Err Fault.OutOfMemory)) }
@@ -47,7 +51,7 @@ pub fn place_document<S: Store>(
 pub fn may_wait<S: Store>(alloc: Global, store: &mut S, id: TxnId, ops: &Ops) -> Result<bool, Fault>
     ensures answer { IsTrue S.tells → IfOk result (λ may. may ≡ (not (has_record (S.content store.old) id)
         && list_all (λ op. has_document (S.content store.old) op.key) ops.now)) }
-    ensures same { IsTrue S.tells → S.content store.new ≡ S.content store.old }
+    ensures reads { IsTrue S.tells → OnlyReads S.content S.place S.calls store.old store.new }
     ensures calls { CallsGoOn S.tells S.content S.place S.calls S.faults store.old store.new }
     ensures fault { IsErrOf result Fault.Store → Rose (S.faults store.old) (S.faults store.new) }
     ensures other { OnErr result ((result ≡ Err Fault.Store) ⊎ (result ≡ Err Fault.OutOfMemory)) }
@@ -62,7 +66,7 @@ pub fn may_wait<S: Store>(alloc: Global, store: &mut S, id: TxnId, ops: &Ops) ->
 /// Whether a cell stands under a name.
 fn is_there<S: Store>(alloc: Global, store: &mut S, name: &Name) -> Result<bool, Fault>
     ensures answer { IsTrue S.tells → IfOk result (λ there. there ≡ is_some (get (S.content store.old) name.now)) }
-    ensures same { IsTrue S.tells → S.content store.new ≡ S.content store.old }
+    ensures reads { IsTrue S.tells → OnlyReads S.content S.place S.calls store.old store.new }
     ensures calls { CallsGoOn S.tells S.content S.place S.calls S.faults store.old store.new }
     ensures fault { IsErrOf result Fault.Store → Rose (S.faults store.old) (S.faults store.new) }
     ensures other { OnErr result ((result ≡ Err Fault.Store) ⊎ (result ≡ Err Fault.OutOfMemory)) }

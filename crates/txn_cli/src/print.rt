@@ -1,7 +1,8 @@
 //! The lines that the program prints.
 
-ghost use Rattle.std.specs.Prelude.{◌≡◌, ◌++◌, OnOk};
-ghost use Rattle.txn_cli.specs.Texts.{document_line, id_json, outcome_line, outcome_word};
+ghost use Rattle.std.specs.Prelude.{◌≡◌, ◌++◌, OnOk, IfOk};
+ghost use Rattle.txn_cli.specs.Outcomes.{settled_state};
+ghost use Rattle.txn_cli.specs.Texts.{document_line, id_json, state_line, state_word, fault_text, step_text};
 
 use crate::fault::{Fault, StepError};
 use doc_value::{DocId, OutOfMemory, Value, push_text, push_value};
@@ -38,7 +39,7 @@ pub fn push_outcome(
     id: TxnId,
     outcome: Outcome,
 ) -> Result<(), OutOfMemory>
-    ensures { OnOk result (out.new.items ≡ out.old.items ++ outcome_line id outcome) }
+    ensures { OnOk result (out.new.items ≡ out.old.items ++ state_line id (settled_state outcome)) }
 {
     let digits = id.print(alloc)?;
     out.extend_from_slice(digits.as_slice())?;
@@ -49,7 +50,7 @@ pub fn push_outcome(
 }
 
 fn outcome_word(outcome: Outcome) -> &'static [u8]
-    ensures { result.now ≡ outcome_word outcome }
+    ensures { result.now ≡ state_word (settled_state outcome) }
 {
     match outcome {
         Outcome::Applied => b"applied",
@@ -61,7 +62,9 @@ const USAGE: &[u8] =
     b"usage: txn run [--db FILE] [--log FILE] | txn race [--log FILE] | txn grind N [--db FILE] [--log FILE]\n";
 
 /// The last line of the output after a refusal. After a fault of the output there is none.
-pub fn last_line(alloc: Global, fault: &Fault) -> Result<Vec<u8>, OutOfMemory> {
+pub fn last_line(alloc: Global, fault: &Fault) -> Result<Vec<u8>, OutOfMemory>
+    ensures { IfOk result (λ text. text.items ≡ fault_text fault.now) }
+{
     match fault {
         Fault::Words => Vec::from_slice(alloc, USAGE),
         Fault::Line { line, text } => refusal_line(alloc, *line, text.as_str()),
@@ -75,7 +78,9 @@ pub fn last_line(alloc: Global, fault: &Fault) -> Result<Vec<u8>, OutOfMemory> {
     }
 }
 
-fn refusal_line(alloc: Global, line: u64, text: &str) -> Result<Vec<u8>, OutOfMemory> {
+fn refusal_line(alloc: Global, line: u64, text: &str) -> Result<Vec<u8>, OutOfMemory>
+    ensures { IfOk result (λ out. out.items ≡ fault_text (Fault.Line line text.now)) }
+{
     let mut out = Vec::from_slice(alloc, b"line ")?;
     let mut buffer = itoa::Buffer::new();
     out.extend_from_slice(buffer.format(line).as_bytes())?;
@@ -86,7 +91,9 @@ fn refusal_line(alloc: Global, line: u64, text: &str) -> Result<Vec<u8>, OutOfMe
 }
 
 /// The last line where a step of a runner was refused.
-fn step_line(alloc: Global, error: &StepError) -> Result<Vec<u8>, OutOfMemory> {
+fn step_line(alloc: Global, error: &StepError) -> Result<Vec<u8>, OutOfMemory>
+    ensures { IfOk result (λ out. out.items ≡ step_text error.now) }
+{
     match error {
         StepError::StoreFault => Vec::from_slice(alloc, b"store fault\n"),
         StepError::NoncesSpent => Vec::from_slice(alloc, b"nonces spent\n"),
@@ -97,7 +104,9 @@ fn step_line(alloc: Global, error: &StepError) -> Result<Vec<u8>, OutOfMemory> {
     }
 }
 
-fn revno_line(alloc: Global, key: &Key) -> Result<Vec<u8>, OutOfMemory> {
+fn revno_line(alloc: Global, key: &Key) -> Result<Vec<u8>, OutOfMemory>
+    ensures { IfOk result (λ out. out.items ≡ step_text (StepError.RevnoSpent key.now)) }
+{
     let mut out = Vec::from_slice(alloc, b"revno spent at doc ")?;
     push_text(&mut out, key.c.as_str())?;
     out.push(b' ')?;
@@ -106,14 +115,18 @@ fn revno_line(alloc: Global, key: &Key) -> Result<Vec<u8>, OutOfMemory> {
     Ok(out)
 }
 
-fn lost_line(alloc: Global, token: &Token) -> Result<Vec<u8>, OutOfMemory> {
+fn lost_line(alloc: Global, token: &Token) -> Result<Vec<u8>, OutOfMemory>
+    ensures { IfOk result (λ out. out.items ≡ step_text (StepError.Lost token.now)) }
+{
     let mut out = Vec::from_slice(alloc, b"lost ")?;
     out.extend_from_slice(token.print(alloc)?.as_slice())?;
     out.push(b'\n')?;
     Ok(out)
 }
 
-fn clash_line(alloc: Global, id: TxnId) -> Result<Vec<u8>, OutOfMemory> {
+fn clash_line(alloc: Global, id: TxnId) -> Result<Vec<u8>, OutOfMemory>
+    ensures { IfOk result (λ out. out.items ≡ fault_text (Fault.Repeated id)) }
+{
     let mut out = Vec::from_slice(alloc, b"clash ")?;
     out.extend_from_slice(id.print(alloc)?.as_slice())?;
     out.push(b'\n')?;

@@ -1,18 +1,20 @@
 //! A script as it is played: what each statement does to the store, and what it prints.
 
-ghost use Rattle.std.specs.Prelude.{◌≡◌, ◌≢◌, false, IsTrue, OnOk, IfErr, IsErrOf};
+ghost use Rattle.std.specs.Prelude.{◌≡◌, ◌≢◌, ◌++◌, [], ℕ, List, false, IsTrue, IfOk, OnOk, IfErr, IsErrOf};
 ghost use Rattle.store_trait.specs.Calls.{CallsGoOn, Rose};
-ghost use Rattle.txn_cli.specs.Play.{progress, is_allowed, Does, RunsBatch, RunsWaiting};
-ghost use Rattle.txn_cli.specs.Refusals.{IsOfLine, IsOfRun, IsOfWork, not_built};
+ghost use Rattle.store_trait.specs.Contents.{Content};
+ghost use Rattle.txn_cli.specs.Play.{is_allowed, Does, RunsBatch, RunsWaiting};
+ghost use Rattle.txn_cli.specs.Refusals.{HasReason, IsOfLine, IsOfRun, IsOfWork, not_built};
+ghost use Rattle.txn_cli.specs.Runs.{GrowsByOne, RunsGoOn};
+ghost use Rattle.txn_cli.specs.Sessions.{IsHeld, at};
 ghost use Rattle.txn_cli.specs.declared.statement.Statement.TheVariants as statement;
 
 use crate::batch::Batch;
-use crate::documents::list_documents;
+use crate::documents::push_documents;
 use crate::done::Run;
-use crate::fault::{Fault, fault_of, refused};
+use crate::fault::{Fault, refused};
 use crate::go::run_batch;
 use crate::places::{may_wait, place_document};
-use crate::print::push_document;
 use crate::statement::Statement;
 use doc_value::Value;
 use std::alloc::Global;
@@ -37,11 +39,16 @@ impl<S: Store> Session<S> {
         line: u64,
         statement: Statement,
     ) -> Result<Vec<u8>, Fault>
-        ensures done { IsTrue S.tells → IsTrue self.old.was_empty → OnOk result
-            (Does statement (progress (S.content self.old.store) self.old.batch self.old.begun)
-            (progress (S.content self.new.store) self.new.batch self.new.begun)) }
+        requires held { IsTrue S.tells → IsTrue self.old.was_empty → IsHeld S.content S.place S.calls self.old }
+        ensures done { IsTrue S.tells → IsTrue self.old.was_empty → IfOk result (λ lines.
+            (printed : List ℕ) → Does statement (at S.content self.old printed) (at S.content self.new (printed ++ lines.items))) }
+        ensures held { IsTrue S.tells → IsTrue self.old.was_empty → OnOk result (IsHeld S.content S.place S.calls self.new) }
+        ensures runs { IsTrue S.tells → IsTrue self.old.was_empty →
+            RunsGoOn (S.place self.new.store) self.new.runs.items (S.calls self.new.store) }
+        ensures grown { GrowsByOne self.old.runs.items self.new.runs.items }
+        ensures reason { IsTrue S.tells → IsTrue self.old.was_empty → IfErr result (HasReason (S.content self.new.store)) }
         ensures refused { IsTrue S.tells → IsTrue self.old.was_empty → IfErr result (λ fault. IsOfLine fault →
-            is_allowed (progress (S.content self.old.store) self.old.batch self.old.begun) statement ≡ false) }
+            is_allowed (at S.content self.old []) statement ≡ false) }
         ensures text { IfErr result (λ fault. IsOfLine fault → fault ≡ not_built line) }
         ensures kind { IfErr result IsOfWork }
         ensures kept { self.new.was_empty ≡ self.old.was_empty }
@@ -58,9 +65,14 @@ impl<S: Store> Session<S> {
 
     /// Runs the batch, where one waits, as the end of the input does.
     pub fn finish(&mut self, alloc: Global, line: u64) -> Result<Vec<u8>, Fault>
-        ensures done { IsTrue S.tells → IsTrue self.old.was_empty → OnOk result
-            (RunsWaiting self.old.batch (progress (S.content self.old.store) self.old.batch self.old.begun)
-            (progress (S.content self.new.store) self.new.batch self.new.begun)) }
+        requires held { IsTrue S.tells → IsTrue self.old.was_empty → IsHeld S.content S.place S.calls self.old }
+        ensures done { IsTrue S.tells → IsTrue self.old.was_empty → IfOk result (λ lines. (printed : List ℕ) →
+            RunsWaiting self.old.batch (at S.content self.old printed) (at S.content self.new (printed ++ lines.items))) }
+        ensures held { IsTrue S.tells → IsTrue self.old.was_empty → OnOk result (IsHeld S.content S.place S.calls self.new) }
+        ensures runs { IsTrue S.tells → IsTrue self.old.was_empty →
+            RunsGoOn (S.place self.new.store) self.new.runs.items (S.calls self.new.store) }
+        ensures grown { GrowsByOne self.old.runs.items self.new.runs.items }
+        ensures reason { IsTrue S.tells → IsTrue self.old.was_empty → IfErr result (HasReason (S.content self.new.store)) }
         ensures never { IsTrue self.old.was_empty → IfErr result IsOfRun }
         ensures text { IfErr result (λ fault. IsOfLine fault → fault ≡ not_built line) }
         ensures kind { IfErr result IsOfWork }
@@ -76,11 +88,16 @@ impl<S: Store> Session<S> {
     }
 
     fn place(&mut self, alloc: Global, line: u64, key: Key, body: Value) -> Result<Vec<u8>, Fault>
-        ensures done { IsTrue S.tells → OnOk result
-            (Does (statement.Doc key body) (progress (S.content self.old.store) self.old.batch self.old.begun)
-            (progress (S.content self.new.store) self.new.batch self.new.begun)) }
+        requires held { IsTrue S.tells → IsTrue self.old.was_empty → IsHeld S.content S.place S.calls self.old }
+        ensures done { IsTrue S.tells → IfOk result (λ lines. (printed : List ℕ) →
+            Does (statement.Doc key body) (at S.content self.old printed) (at S.content self.new (printed ++ lines.items))) }
+        ensures held { IsTrue S.tells → IsTrue self.old.was_empty → OnOk result (IsHeld S.content S.place S.calls self.new) }
+        ensures runs { IsTrue S.tells → IsTrue self.old.was_empty →
+            RunsGoOn (S.place self.new.store) self.new.runs.items (S.calls self.new.store) }
+        ensures grown { GrowsByOne self.old.runs.items self.new.runs.items }
+        ensures reason { IsTrue S.tells → IsTrue self.old.was_empty → IfErr result (HasReason (S.content self.new.store)) }
         ensures refused { IsTrue S.tells → IfErr result (λ fault. IsOfLine fault →
-            is_allowed (progress (S.content self.old.store) self.old.batch self.old.begun) (statement.Doc key body) ≡ false) }
+            is_allowed (at S.content self.old []) (statement.Doc key body) ≡ false) }
         ensures text { IfErr result (λ fault. IsOfLine fault → fault ≡ not_built line) }
         ensures kind { IfErr result IsOfWork }
         ensures kept { self.new.was_empty ≡ self.old.was_empty }
@@ -98,11 +115,16 @@ impl<S: Store> Session<S> {
     }
 
     fn submit(&mut self, alloc: Global, line: u64, id: TxnId, ops: Ops) -> Result<Vec<u8>, Fault>
-        ensures done { IsTrue S.tells → OnOk result
-            (Does (statement.Submit id ops) (progress (S.content self.old.store) self.old.batch self.old.begun)
-            (progress (S.content self.new.store) self.new.batch self.new.begun)) }
+        requires held { IsTrue S.tells → IsTrue self.old.was_empty → IsHeld S.content S.place S.calls self.old }
+        ensures done { IsTrue S.tells → IfOk result (λ lines. (printed : List ℕ) →
+            Does (statement.Submit id ops) (at S.content self.old printed) (at S.content self.new (printed ++ lines.items))) }
+        ensures held { IsTrue S.tells → IsTrue self.old.was_empty → OnOk result (IsHeld S.content S.place S.calls self.new) }
+        ensures runs { IsTrue S.tells → IsTrue self.old.was_empty →
+            RunsGoOn (S.place self.new.store) self.new.runs.items (S.calls self.new.store) }
+        ensures grown { GrowsByOne self.old.runs.items self.new.runs.items }
+        ensures reason { IsTrue S.tells → IsTrue self.old.was_empty → IfErr result (HasReason (S.content self.new.store)) }
         ensures refused { IsTrue S.tells → IfErr result (λ fault. IsOfLine fault →
-            is_allowed (progress (S.content self.old.store) self.old.batch self.old.begun) (statement.Submit id ops) ≡ false) }
+            is_allowed (at S.content self.old []) (statement.Submit id ops) ≡ false) }
         ensures text { IfErr result (λ fault. IsOfLine fault → fault ≡ not_built line) }
         ensures kind { IfErr result IsOfWork }
         ensures kept { self.new.was_empty ≡ self.old.was_empty }
@@ -124,9 +146,14 @@ impl<S: Store> Session<S> {
     }
 
     fn go(&mut self, alloc: Global, line: u64) -> Result<Vec<u8>, Fault>
-        ensures done { OnOk result
-            (RunsBatch (progress (S.content self.old.store) self.old.batch self.old.begun)
-            (progress (S.content self.new.store) self.new.batch self.new.begun)) }
+        requires held { IsTrue S.tells → IsTrue self.old.was_empty → IsHeld S.content S.place S.calls self.old }
+        ensures done { IsTrue S.tells → IsTrue self.old.was_empty → IfOk result (λ lines. (printed : List ℕ) →
+            RunsBatch (at S.content self.old printed) (at S.content self.new (printed ++ lines.items))) }
+        ensures held { IsTrue S.tells → IsTrue self.old.was_empty → OnOk result (IsHeld S.content S.place S.calls self.new) }
+        ensures runs { IsTrue S.tells → IsTrue self.old.was_empty →
+            RunsGoOn (S.place self.new.store) self.new.runs.items (S.calls self.new.store) }
+        ensures grown { GrowsByOne self.old.runs.items self.new.runs.items }
+        ensures reason { IsTrue S.tells → IsTrue self.old.was_empty → IfErr result (HasReason (S.content self.new.store)) }
         ensures never { IsTrue self.old.was_empty → IfErr result IsOfRun }
         ensures text { IfErr result (λ fault. IsOfLine fault → fault ≡ not_built line) }
         ensures kind { IfErr result IsOfWork }
@@ -149,9 +176,14 @@ impl<S: Store> Session<S> {
     }
 
     fn show(&mut self, alloc: Global, line: u64) -> Result<Vec<u8>, Fault>
-        ensures done { IsTrue S.tells → IsTrue self.old.was_empty → OnOk result
-            (Does statement.Show (progress (S.content self.old.store) self.old.batch self.old.begun)
-            (progress (S.content self.new.store) self.new.batch self.new.begun)) }
+        requires held { IsTrue S.tells → IsTrue self.old.was_empty → IsHeld S.content S.place S.calls self.old }
+        ensures done { IsTrue S.tells → IsTrue self.old.was_empty → IfOk result (λ lines. (printed : List ℕ) →
+            Does statement.Show (at S.content self.old printed) (at S.content self.new (printed ++ lines.items))) }
+        ensures held { IsTrue S.tells → IsTrue self.old.was_empty → OnOk result (IsHeld S.content S.place S.calls self.new) }
+        ensures runs { IsTrue S.tells → IsTrue self.old.was_empty →
+            RunsGoOn (S.place self.new.store) self.new.runs.items (S.calls self.new.store) }
+        ensures grown { GrowsByOne self.old.runs.items self.new.runs.items }
+        ensures reason { IsTrue S.tells → IsTrue self.old.was_empty → IfErr result (HasReason (S.content self.new.store)) }
         ensures never { IsTrue self.old.was_empty → IfErr result IsOfRun }
         ensures text { IfErr result (λ fault. IsOfLine fault → fault ≡ not_built line) }
         ensures kind { IfErr result IsOfWork }
@@ -169,27 +201,11 @@ impl<S: Store> Session<S> {
     }
 }
 
-/// Prints the documents of the store, in the order of their keys.
-fn push_documents<S: Store>(alloc: Global, store: &mut S, lines: &mut Vec<u8>) -> Result<(), Fault>
-    ensures same { IsTrue S.tells → S.content store.new ≡ S.content store.old }
-    ensures kind { IfErr result IsOfRun }
-    ensures calls { CallsGoOn S.tells S.content S.place S.calls S.faults store.old store.new }
-    ensures fault { IsErrOf result Fault.Store → Rose (S.faults store.old) (S.faults store.new) }
-{
-    let docs = match list_documents(alloc, store) {
-        Ok(docs) => docs,
-        Err(error) => return Err(fault_of(error)),
-    };
-    for doc in docs.as_slice() {
-        push_document(lines, doc)?;
-    }
-    Ok(())
-}
-
 /// The refusal of a line whose form isn't built.
 fn unbuilt(alloc: Global, line: u64) -> Fault
     ensures text { IsOfLine result → result ≡ not_built line }
     ensures kind { IsOfWork result }
+    ensures reason { (c : Content) → HasReason c result }
     ensures other { result ≢ Fault.Store }
 {
     refused(alloc, line, "not built yet")

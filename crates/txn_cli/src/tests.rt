@@ -1,9 +1,11 @@
 //! The worked scripts, and the outside failing at each of its calls.
 use crate::command::command;
-use crate::io::{MemorySink, MemorySource};
+use crate::silent::SilentStore;
 use std::alloc::Global;
 use std::test::Fail;
 use store_memory::MemoryStore;
+use store_trait::Store;
+use txn_io::{MemorySink, MemorySource};
 
 const ROOM: u64 = 4096;
 
@@ -42,11 +44,21 @@ const NONE: Fails = Fails {
 };
 
 fn play(alloc: Global, word: &str, script: &str, fails: Fails) -> Result<Played, Fail> {
+    let store = MemoryStore::new(alloc, vec![in alloc; fails.store]?)?;
+    play_over(alloc, word, script, fails, store)
+}
+
+fn play_over<S: Store + Drop>(
+    alloc: Global,
+    word: &str,
+    script: &str,
+    fails: Fails,
+    store: S,
+) -> Result<Played, Fail> {
     let words = vec![in alloc; String::from_str(alloc, word)?]?;
     let bytes = Vec::from_slice(alloc, script.as_bytes())?;
     let mut input = MemorySource::new(bytes, vec![in alloc; fails.input]?);
     let mut output = MemorySink::new(alloc, ROOM, vec![in alloc; fails.output]?)?;
-    let store = MemoryStore::new(alloc, vec![in alloc; fails.store]?)?;
     let done = command(alloc, words.as_slice(), &mut input, &mut output, store);
     let written = Vec::from_slice(alloc, output.written())?;
     Ok(Played {
@@ -103,5 +115,18 @@ fn failing_input_and_output(rt: HostRuntime) -> Result<(), Fail> {
     let unwritten = play(alloc, "run", SCRIPT, Fails { output: 1, ..NONE })?;
     assert_eq!(rt; unwritten.status, 7);
     assert_eq!(rt; unwritten.written.as_slice(), b"".as_slice());
+    Ok(())
+}
+
+/// The same code runs over a store that tells nothing of what it holds.
+#[test]
+fn silent_stores(rt: HostRuntime) -> Result<(), Fail> {
+    let alloc = rt.alloc();
+    for (fails, status, text) in [(0, 0, OUTPUT), (3, 5, "store fault\n")] {
+        let told = MemoryStore::new(alloc, vec![in alloc; fails]?)?;
+        let played = play_over(alloc, "run", SCRIPT, NONE, SilentStore::over(told))?;
+        assert_eq!(rt; played.status, status, "{fails}");
+        assert_eq!(rt; played.written.as_slice(), text.as_bytes(), "{fails}");
+    }
     Ok(())
 }

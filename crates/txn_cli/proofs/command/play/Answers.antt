@@ -1,44 +1,70 @@
-use Rattle.std.proofs.Common.{◌≡◌, ◌+◌, ◌++◌, Some, refl, sym, ap, subst, ◌∙◌, arith}
+use Rattle.std.proofs.Common.{inl, ap, [], refl, sym, ◌∙◌, arith}
+use Rattle.txn_cli.specs.Play.{Progress}
 use Rattle.std.proofs.lemmas.Result.{err_from_is_err_and}
-use Rattle.store_trait.specs.Contents.{Content}
-use Rattle.txn_cli.specs.Play.{Plays, IsPlayed, RunsWaiting, progress}
-use Rattle.txn_cli.proofs.Playing.{line_read, one_more, refuses_line, ends, on_ok, unread, calls_then}
+use Rattle.txn_cli.proofs.Playing.{line_read, refuses_line, on_ok, unread, calls_then}
+use Rattle.txn_cli.proofs.Readings.{begins_held, begins_come, begins_stopped, refused_alike, stops, stops_at_end, plays_out, comes_further}
 use Rattle.txn_cli.proofs.command.play.Goals as goal
 
 pub loop-done-init : goal.loop-done-init
-loop-done-init g c = rw c.new-lines.ensures (
-    let opening = progress (g.S.Store.content c.args.session.now.store) c.args.session.now.batch c.args.session.now.begun in
-    record {
-      counted = omega arith;
-      within = omega arith;
-      unrefused = refl;
-      output_later = omega arith;
-      input_later = omega arith;
-      made = c.in_ok-session.ensures.calls;
-      was_empty = λ told e. c.in_ok-session.ensures.empty told e;
-      at = λ src told e. record {
-        plays = subst (λ (x : Content). Plays (g.I.Source.rest c.args.input.now) opening 0 (progress x c.args.session.now.batch c.args.session.now.begun)) (sym (c.in_ok-session.ensures.same told)) Plays.Opens;
-        rest = refl;
-        taken = refl;
-      };
-    })
+loop-done-init g c = rw c.new-lines.ensures (record {
+  counted = omega arith;
+  within = omega arith;
+  unrefused = refl;
+  output_later = omega arith;
+  input_later = omega arith;
+  made = c.in_ok-session.ensures.calls;
+  was_empty = λ told e. c.in_ok-session.ensures.empty told e;
+  only_empty = λ told was. c.in_ok-session.ensures.only told was;
+  held = λ told e. begins_held g.S.Store.content g.S.Store.place g.S.Store.calls c.args.session.now _ c.requires.begins e (c.in_ok-session.ensures.same told) refl refl refl;
+  come = λ src told e. begins_come g.S.Store.content c.args.session.now _ (g.I.Source.rest c.args.input.now) g.O.Sink.tells (g.O.Sink.written c.args.output.now) c.requires.begins (c.in_ok-session.ensures.same told) refl refl refl;
+})
 
 pub returns-in_err-play_line-in-Ok-Some-clause-line : goal.returns-in_err-play_line-in-Ok-Some-clause-line
 returns-in_err-play_line-in-Ok-Some-clause-line g c = λ src told e.
     let p = err_from_is_err_and c.from_residual-in_err-play_line-in-Ok-Some.result c.from_residual-in_err-play_line-in-Ok-Some.ensures.1 in
-    let a = c.loop-done.invariant.at src told e in
+    let a = (c.loop-done.invariant.come src told e).plays in
     let first = line_read _ _ _ (rw c.in-Ok-Some.field-0-is at (c.in-Ok-Some.ensures.line src)) in
-    rw (p.1, p.2) (λ of_line. refuses_line _ _ _ _ _ _ _ _ a first (rw c.as_slice.ensures.value at (c.in_err-play_line-in-Ok-Some.ensures.refused told (c.loop-done.invariant.was_empty told e) of_line)) (c.in_err-play_line-in-Ok-Some.ensures.text of_line))
+    rw (p.1, p.2) (λ of_line. refuses_line _ _ _ _ _ _ _ _ a first (refused_alike g.S.Store.content c.loop-done.session [] (c.loop-done.invariant.come src told e).printed c.in-Ok-Some.line.items (rw c.as_slice.ensures.value at (c.in_err-play_line-in-Ok-Some.ensures.refused told (c.loop-done.invariant.was_empty told e) of_line))) (c.in_err-play_line-in-Ok-Some.ensures.text of_line))
+
+pub returns-in_err-play_line-in-Ok-Some-clause-stopped : goal.returns-in_err-play_line-in-Ok-Some-clause-stopped
+returns-in_err-play_line-in-Ok-Some-clause-stopped g c = λ src told e.
+    let p = err_from_is_err_and c.from_residual-in_err-play_line-in-Ok-Some.result c.from_residual-in_err-play_line-in-Ok-Some.ensures.1 in
+    rw (p.1, p.2) (stops _ _ _ _ _ _ _ _ _ _ _ _ _ (c.loop-done.invariant.come src told e) c.in_err-play_line-in-Ok-Some.ensures.grown (λ tells other. c.in_err-play_line-in-Ok-Some.ensures.unwritten tells other))
+
+pub returns-in_err-play_line-in-Ok-Some-clause-runs : goal.returns-in_err-play_line-in-Ok-Some-clause-runs
+returns-in_err-play_line-in-Ok-Some-clause-runs g c = λ told e. c.in_err-play_line-in-Ok-Some.ensures.runs told (c.loop-done.invariant.was_empty told e)
+
+pub returns-in_err-play_line-in-Ok-Some-clause-reason : goal.returns-in_err-play_line-in-Ok-Some-clause-reason
+returns-in_err-play_line-in-Ok-Some-clause-reason g c = λ told e.
+    let p = err_from_is_err_and c.from_residual-in_err-play_line-in-Ok-Some.result c.from_residual-in_err-play_line-in-Ok-Some.ensures.1 in
+    rw (p.1, p.2) (c.in_err-play_line-in-Ok-Some.ensures.reason told (c.loop-done.invariant.was_empty told e))
 
 pub returns-in-Ok-None-clause-played : goal.returns-in-Ok-None-clause-played
 returns-in-Ok-None-clause-played g c = λ src told e.
-    let a = c.loop-done.invariant.at src told e in
     let none = line_read _ _ _ (rw c.in-Ok-None.field-0-is at (c.in-Ok-None.ensures.line src)) in
-    on_ok c.finish.result _ _ (c.finish.ensures.done told (c.loop-done.invariant.was_empty told e)) (λ runs. ends _ _ _ _ _ _ _ a none runs)
+    on_ok c.finish.result _ _ (c.finish.ensures.done told (c.loop-done.invariant.was_empty told e)) (λ runs. plays_out _ _ _ _ _ _ _ _ _ _ _ _ (c.loop-done.invariant.come src told e) none runs)
+
+pub returns-in-Ok-None-clause-stopped : goal.returns-in-Ok-None-clause-stopped
+returns-in-Ok-None-clause-stopped g c = λ src told e. stops_at_end _ _ _ _ _ _ _ _ _ _ _ _ _ (c.loop-done.invariant.come src told e) c.finish.ensures.grown c.finish.ensures.unwritten
+
+pub returns-in-Ok-None-clause-runs : goal.returns-in-Ok-None-clause-runs
+returns-in-Ok-None-clause-runs g c = λ told e. c.finish.ensures.runs told (c.loop-done.invariant.was_empty told e)
+
+pub returns-in-Ok-None-clause-reason : goal.returns-in-Ok-None-clause-reason
+returns-in-Ok-None-clause-reason g c = λ told e. c.finish.ensures.reason told (c.loop-done.invariant.was_empty told e)
+
+pub returns-in-Err-clause-stopped : goal.returns-in-Err-clause-stopped
+returns-in-Err-clause-stopped g c = λ src told e. stops _ _ _ _ _ _ _ _ _ _ _ _ _ (c.loop-done.invariant.come src told e) (inl refl) (λ tells other. refl)
+
+pub returns-in-Err-clause-runs : goal.returns-in-Err-clause-runs
+returns-in-Err-clause-runs g c = λ told e. (c.loop-done.invariant.held told e).runs
+
+pub returns-in-Err-clause-reason : goal.returns-in-Err-clause-reason
+returns-in-Err-clause-reason g c = λ told e. c.line_fault.ensures.reason _
 
 pub returns-in-Err-clause-line : goal.returns-in-Err-clause-line
 returns-in-Err-clause-line g c = λ src told e of_line.
-    unread _ _ _ _ _ _ c.in-Err.fault _ (c.loop-done.invariant.at src told e)
+    unread _ _ _ _ _ _ c.in-Err.fault _ (c.loop-done.invariant.come src told e).plays
     (λ why. c.in-Err.ensures.too_long src c.loop-done.invariant.unrefused (cc))
     (λ why. c.in-Err.ensures.script_too_long src c.loop-done.invariant.unrefused (cc))
     c.line_fault.ensures.exact of_line
@@ -54,7 +80,20 @@ loop-done-preserved g c =
       input_later = omega (arith, c.loop-done.invariant.input_later, c.in-Ok-Some.ensures.faults);
       made = calls_then _ _ _ _ _ _ _ _ c.loop-done.invariant.made c.in_ok-play_line-in-Ok-Some.ensures.calls;
       was_empty = λ told e. c.in_ok-play_line-in-Ok-Some.ensures.kept ∙ c.loop-done.invariant.was_empty told e;
-      at = λ src told e.
+      only_empty = λ told was. c.loop-done.invariant.only_empty told (sym c.in_ok-play_line-in-Ok-Some.ensures.kept ∙ was);
+      held = λ told e. c.in_ok-play_line-in-Ok-Some.ensures.held told (c.loop-done.invariant.was_empty told e);
+      come = λ src told e.
           let first = line_read _ _ _ (rw c.in-Ok-Some.field-0-is at (c.in-Ok-Some.ensures.line src)) in
-          one_more _ _ _ _ _ _ _ _ _ _ (c.loop-done.invariant.at src told e) first (rw c.as_slice.ensures.value at (c.in_ok-play_line-in-Ok-Some.ensures.done told (c.loop-done.invariant.was_empty told e))) (c.in-Ok-Some.ensures.rest src) (c.in-Ok-Some.ensures.taken src);
+          comes_further _ _ _ _ _ _ _ _ _ _ _ _ _ _ _ (c.loop-done.invariant.come src told e) first (rw c.as_slice.ensures.value at (c.in_ok-play_line-in-Ok-Some.ensures.done told (c.loop-done.invariant.was_empty told e))) (c.in-Ok-Some.ensures.rest src) (c.in-Ok-Some.ensures.taken src);
     }
+
+pub play_line-requires : goal.play_line-requires
+play_line-requires g c = record { held = λ told was. c.loop-done.invariant.held told (c.loop-done.invariant.only_empty told was) }
+
+pub finish-requires : goal.finish-requires
+finish-requires g c = record { held = λ told was. c.loop-done.invariant.held told (c.loop-done.invariant.only_empty told was) }
+
+pub returns-in_err-session-clause-stopped : goal.returns-in_err-session-clause-stopped
+returns-in_err-session-clause-stopped g c = λ src told e.
+    let p = err_from_is_err_and c.from_residual.result c.from_residual.ensures.1 in
+    rw (p.1, p.2) (begins_stopped _ _ _ _ _ _ refl (ap (λ (p : Progress). p.runs) c.requires.begins))

@@ -1,4 +1,3 @@
-use Rattle.std.proofs.Common.{◌≡◌}
 use Rattle.txn_cli.proofs.IndexLaws.{index_more}
 use Rattle.txn_cli.proofs.batch.Batch.push.Goals as goal
 

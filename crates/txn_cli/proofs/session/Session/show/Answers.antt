@@ -1,12 +1,32 @@
-use Rattle.std.proofs.Common.{true, sym, subst}
-use Rattle.store_trait.specs.Contents.{Content}
-use Rattle.txn_cli.specs.Play.{progress, Does}
-use Rattle.txn_cli.specs.declared.statement.Statement.TheVariants as statement
+use Rattle.std.proofs.Common.{refl, true}
+use Rattle.std.proofs.lemmas.Result.{err_from_is_err_and}
+use Rattle.store_laws.proofs.Resting.{meaning-rest}
+use Rattle.txn_cli.proofs.OnlyReading.{runs_only_read}
+use Rattle.txn_cli.proofs.Sessions.{showing_held}
 use Rattle.txn_cli.proofs.Showing.{shows}
 use Rattle.txn_cli.proofs.session.Session.show.Goals as goal
 
+pub returns-in_err-push_documents-clause-runs : goal.returns-in_err-push_documents-clause-runs
+returns-in_err-push_documents-clause-runs g c = λ told was.
+    let h = c.in_ok-lines.ensures.held told was in
+    runs_only_read _ _ _ _ _ _ _ _ (c.push_documents.ensures.reads told) c.push_documents.ensures.calls told h.may_run.calm.sound h.runs
+
+pub returns-in_err-push_documents-clause-reason : goal.returns-in_err-push_documents-clause-reason
+returns-in_err-push_documents-clause-reason g c = λ told was.
+    let p = err_from_is_err_and c.from_residual-in_err-push_documents.result c.from_residual-in_err-push_documents.ensures.1 in
+    rw (p.1, p.2) (c.in_err-push_documents.ensures.reason _)
+
 pub returns-clause-done : goal.returns-clause-done
-returns-clause-done g c = λ told was.
-    let before = progress (g.S.Store.content c.args.self.now.store) c.args.self.now.batch c.args.self.now.begun in
-    let between = progress (g.S.Store.content c.finish.new.self.store) c.finish.new.self.batch c.finish.new.self.begun in
-    subst (λ (x : Content). Does statement.Show before (progress x c.finish.new.self.batch true)) (sym (c.in_ok-push_documents.ensures.same told)) (shows before between (c.in_ok-lines.ensures.done told was))
+returns-clause-done g c = λ told was printed.
+    let calm = (c.in_ok-lines.ensures.held told was).may_run.calm in
+    shows g.S.Store.content c.args.self.now c.finish.new.self (record { store = c.push_documents.new.store; runs = c.finish.new.self.runs; batch = c.finish.new.self.batch; begun = true; was_empty = c.finish.new.self.was_empty }) c.in_ok-lines.lines.items _ printed (c.in_ok-lines.ensures.done told was printed) (c.in_ok-push_documents.ensures.printed told calm.plain) (meaning-rest _ calm.sound calm.rests)
+    (c.push_documents.ensures.reads told).same refl refl refl
+
+pub returns-clause-held : goal.returns-clause-held
+returns-clause-held g c = λ told was.
+    showing_held _ _ _ _ _ (c.in_ok-lines.ensures.held told was) _ _ told (c.push_documents.ensures.reads told) c.push_documents.ensures.calls refl refl refl
+
+pub returns-clause-runs : goal.returns-clause-runs
+returns-clause-runs g c = λ told was.
+    let h = c.in_ok-lines.ensures.held told was in
+    runs_only_read _ _ _ _ _ _ _ _ (c.push_documents.ensures.reads told) c.push_documents.ensures.calls told h.may_run.calm.sound h.runs

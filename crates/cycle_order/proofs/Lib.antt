@@ -1,0 +1,14 @@
+pub mod LinkedEdges
+pub mod LastEdges
+pub mod Searches
+pub mod MoreWalks
+pub mod FirstLaws
+pub mod SomeFirst
+pub mod GraphFacts
+pub mod TurnedEdges
+pub mod Picking
+pub mod Leasts
+pub mod IdWalks
+pub mod GraphLaws
+pub mod DecidedWalks
+pub mod GrowingGraphs

@@ -1,0 +1,5 @@
+pub mod Readiness
+pub mod Graphs
+pub mod Searching
+pub mod Choosing
+pub mod ByIds

@@ -1,0 +1,5 @@
+pub mod Lists
+pub mod SameTrees
+pub mod Levels
+pub mod OperatorFields
+pub mod Cases

@@ -1,0 +1,5 @@
+use Rattle.doc_query.proofs.Levels.{fault_at_object}
+use Rattle.doc_query.proofs.reading.check_condition.Goals as goal
+
+pub returns-in-Object : goal.returns-in-Object
+returns-in-Object c = rw (c.in-Object.is, fault_at_object, ← c.as_slice.ensures) c.check_condition_fields.ensures

@@ -1,0 +1,5 @@
+pub mod Sameness
+pub mod Operators
+pub mod Reading
+pub mod Conditions
+pub mod Meaning

@@ -1,0 +1,159 @@
+//! Whether a query holds on a body. Nothing here takes memory.
+//!
+//! `ordered` says that the body's names are known to be in order, so that each name that is asked for is
+//! found by halving.
+ghost use Rattle.std.specs.Prelude.{◌≡◌, map, true};
+ghost use Rattle.doc_value.specs.Fields.{judged};
+ghost use Rattle.doc_value.specs.Order.{is_ordered};
+ghost use Rattle.doc_query.specs.Operators.{logic_named};
+ghost use Rattle.doc_query.specs.Meaning.{holds, holds_as, every, some, logic_holds, name_holds, names_hold, every_holds, some_holds, beside_meaning};
+
+use crate::condition::is_met;
+use crate::operator::{Logic, is_operator};
+use crate::query::Query;
+use doc_lookup::{get_in_order, is_ordered};
+use doc_value::{Field, Text, Value};
+
+/// From so many names on it pays to learn first whether a body's names are in order.
+const MANY_NAMES: u64 = 16;
+
+/// Whether the query holds on the body. Where it asks for many names, one pass tells whether the body's
+/// names are in order, as those of all bodies that were read are.
+pub fn matches(query: &Query, body: &Value) -> bool
+    ensures { result ≡ holds query.now body.now }
+{
+    let query = query.source();
+    let ordered = count_names(query) >= MANY_NAMES && is_ordered(body);
+    query_holds(query, body, ordered)
+}
+
+/// How many names stand in a value, at every depth.
+#[cycle(counting)]
+fn count_names(value: &Value) -> u64 {
+    match value {
+        Value::Null => 0,
+        Value::Bool(_) => 0,
+        Value::Int(_) => 0,
+        Value::Text(_) => 0,
+        Value::List(items) => count_in_items(items.as_slice()),
+        Value::Object(fields) => count_in_fields(fields.as_slice()),
+    }
+}
+
+#[cycle(counting)]
+fn count_in_items(items: &[Value]) -> u64 {
+    let mut count: u64 = 0;
+    for item in items {
+        count = count.saturating_add(count_names(item));
+    }
+    count
+}
+
+#[cycle(counting)]
+fn count_in_fields(fields: &[Field]) -> u64 {
+    let mut count = fields.len() as u64;
+    for field in fields {
+        count = count.saturating_add(count_names(&field.value));
+    }
+    count
+}
+
+#[cycle(meaning)]
+#[tactic(auto, using(crate::proofs::Levels::holds_as_level))]
+fn query_holds(query: &Value, body: &Value, ordered: bool) -> bool
+    requires { ordered ≡ true → is_ordered body.now ≡ true }
+    ensures { result ≡ holds query.now body.now }
+{
+    match query {
+        Value::Object(fields) => each_name_holds(fields.as_slice(), body, ordered),
+        _ => false,
+    }
+}
+
+#[cycle(meaning)]
+fn each_name_holds(fields: &[Field], body: &Value, ordered: bool) -> bool
+    requires { ordered ≡ true → is_ordered body.now ≡ true }
+    ensures { result ≡ names_hold (map (judged beside_meaning) fields.now) body.now }
+{
+    for field in fields {
+        if !named_holds(&field.name, &field.value, body, ordered) {
+            return false;
+        }
+    }
+    true
+}
+
+#[cycle(meaning)]
+fn named_holds(name: &Text, value: &Value, body: &Value, ordered: bool) -> bool
+    requires { ordered ≡ true → is_ordered body.now ≡ true }
+    ensures { result ≡ name_holds name.now value.now (holds_as value.now) body.now }
+{
+    if is_operator(name.as_bytes()) {
+        joined_hold(name.as_bytes(), value, body, ordered)
+    } else {
+        is_met(value, get_in_order(body, name.as_str(), ordered))
+    }
+}
+
+#[cycle(meaning)]
+fn joined_hold(name: &[u8], queries: &Value, body: &Value, ordered: bool) -> bool
+    requires { ordered ≡ true → is_ordered body.now ≡ true }
+    ensures { result ≡ logic_holds (logic_named name.now) (holds_as queries.now) body.now }
+{
+    match Logic::read(name) {
+        None => false,
+        Some(Logic::And) => all_hold(queries, body, ordered),
+        Some(Logic::Or) => some_hold(queries, body, ordered),
+        Some(Logic::Nor) => !some_hold(queries, body, ordered),
+    }
+}
+
+#[cycle(meaning)]
+#[tactic(auto, using(crate::proofs::Levels::holds_as_level))]
+fn all_hold(queries: &Value, body: &Value, ordered: bool) -> bool
+    requires { ordered ≡ true → is_ordered body.now ≡ true }
+    ensures { result ≡ holds_as queries.now every body.now }
+{
+    match queries {
+        Value::List(queries) => each_holds(queries.as_slice(), body, ordered),
+        _ => false,
+    }
+}
+
+#[cycle(meaning)]
+fn each_holds(queries: &[Value], body: &Value, ordered: bool) -> bool
+    requires { ordered ≡ true → is_ordered body.now ≡ true }
+    ensures { result ≡ every_holds (map beside_meaning queries.now) body.now }
+{
+    for query in queries {
+        if !query_holds(query, body, ordered) {
+            return false;
+        }
+    }
+    true
+}
+
+#[cycle(meaning)]
+#[tactic(auto, using(crate::proofs::Levels::holds_as_level))]
+fn some_hold(queries: &Value, body: &Value, ordered: bool) -> bool
+    requires { ordered ≡ true → is_ordered body.now ≡ true }
+    ensures { result ≡ holds_as queries.now some body.now }
+{
+    match queries {
+        Value::List(queries) => any_holds(queries.as_slice(), body, ordered),
+        _ => false,
+    }
+}
+
+#[cycle(meaning)]
+fn any_holds(queries: &[Value], body: &Value, ordered: bool) -> bool
+    requires { ordered ≡ true → is_ordered body.now ≡ true }
+    ensures { result ≡ some_holds (map beside_meaning queries.now) body.now }
+{
+    for query in queries {
+        if query_holds(query, body, ordered) {
+            return true;
+        }
+    }
+    false
+}

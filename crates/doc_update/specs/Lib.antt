@@ -1,0 +1,12 @@
+pub mod Operators
+pub mod Same
+pub mod Effects
+pub mod Places
+pub mod Changes
+pub mod Conflicts
+pub mod Reading
+pub mod Updates
+pub mod Listed
+pub mod Fitting
+pub mod Puts
+pub mod Groups

@@ -1,0 +1,5 @@
+use Rattle.store_laws.proofs.Resting.{meaning-rest}
+use Rattle.store_laws.proofs.documents.meaning_at_rest.Goals as goal
+
+pub returns : goal.returns
+returns c = meaning-rest

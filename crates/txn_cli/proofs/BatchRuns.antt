@@ -1,0 +1,56 @@
+-- The Run of a batch: from the listing of its base to the end of its calls.
+use Rattle.std.proofs.Common.{◌≡◌, ℕ, Bool, List, [], ◌∷◌, ◌++◌, Result, Ok, Err, IfOk, IsTrue, sym, ap, ◌∙◌, subst, arith}
+use Rattle.txn_record.specs.Documents.{Docs}
+use Rattle.store_trait.specs.Calls.{CallsGoOn}
+use Rattle.store_trait.specs.Contents.{Content}
+use Rattle.store_trait.specs.Meaning.{meaning}
+use Rattle.store_trait.specs.Soundness.{IsSound}
+use Rattle.txn_cli.specs.Batches.{MayRun, WorksOnBatch, IsDoneWith}
+use Rattle.txn_cli.specs.Play.{RanBatch, HasRunBatch}
+use Rattle.txn_cli.specs.Running.{HasRun, OnlyReads}
+use Rattle.txn_cli.specs.Runs.{RunsGoOn}
+use Rattle.txn_cli.specs.declared.done.Run.{Run}
+use Rattle.txn_cli.specs.declared.waiting.Waiting.{Waiting}
+use Rattle.txn_cli.proofs.Batches.{ran_batch}
+use Rattle.txn_cli.proofs.OnlyReading.{runs_only_read}
+use Rattle.txn_cli.proofs.Running.{run_opens}
+use Rattle.txn_cli.proofs.Runs.{runs_same, runs_add}
+
+pub if_ok : {T E : Type 0} (r : Result T E) (P Q : T → Type 0) → IfOk r P → ((x : T) → P x → Q x) → IfOk r Q
+if_ok (Ok x) P Q h f = f x h
+if_ok (Err e) P Q h f = tt
+
+-- the store as the batch is run over it, as its base was listed, and as the batch was run
+module _ {S : Type 0} (tells : Bool) (content : S → Content) (place : S → ℕ → Content) (calls faults : S → ℕ) (old mid now : S) (waiting : List Waiting) (run : Run)
+    (told : IsTrue tells) (present : (s : S) → place s (calls s) ≡ content s)
+    (may : MayRun (content old) waiting) (reads : OnlyReads content place calls old mid) (first : CallsGoOn tells content place calls faults old mid) (second : CallsGoOn tells content place calls faults mid now)
+    (mark : run.mark ≡ calls mid) (base : run.base ≡ meaning (content mid)) (works : WorksOnBatch content place calls mid now [] run.order waiting) where
+  may_mid : MayRun (content mid) waiting
+  may_mid = subst (λ (c : Content). MayRun c waiting) (sym reads.same) may
+
+  opens : HasRun (place mid) run.mark (calls mid) run.base []
+  opens =
+      subst (λ (k : ℕ). HasRun (place mid) k (calls mid) run.base []) (sym mark)
+      (subst (λ (d : Docs). HasRun (place mid) (calls mid) (calls mid) d []) (ap meaning (present mid) ∙ sym base)
+      (run_opens (place mid) (calls mid) (subst IsSound (sym (present mid)) may_mid.calm.sound)))
+
+  has : HasRun (place now) run.mark (calls now) run.base run.order
+  has = works.run run.mark run.base opens
+
+  still_there : place now run.mark ≡ content mid
+  still_there = ap (place now) mark ∙ (second.trail told).before (calls mid) (omega arith) ∙ present mid
+
+  pub batch_runs : (runs after : List Run) → after ≡ runs ++ run ∷ [] → RunsGoOn (place old) runs (calls old) → RunsGoOn (place now) after (calls now)
+  batch_runs runs after kept h =
+      let before = runs_only_read tells content place calls faults old mid runs reads first told may.calm.sound h in
+      let there = runs_same (place mid) (place now) runs (calls mid) (second.trail told).before before in
+      subst (λ (rs : List Run). RunsGoOn (place now) rs (calls now)) (sym kept)
+      (runs_add (place now) runs run (calls mid) (calls now) there mark (base ∙ ap meaning (sym still_there ∙ ap (place now) mark)) has)
+
+  pub batch_done : (before after : List Run) (lines : List ℕ) → after ≡ before ++ run ∷ [] → IsDoneWith (content now) waiting lines → HasRunBatch (content old) (content now) waiting before after lines
+  batch_done before after lines kept done = record {
+    run = run;
+    ran = subst (λ (c : Content). RanBatch c (content now) waiting run lines) reads.same
+        (ran_batch content place calls mid now waiting run lines may_mid (present mid) (present now) mark base works done has still_there);
+    kept = kept;
+  }

@@ -1,0 +1,350 @@
+-- A batch from its submission to its end.
+use Rattle.std.proofs.Common.{◌≡◌, ◌≢◌, ℕ, ◌+◌, ◌<◌, ◌≤◌, length, drop, Bool, true, false, not, ◌||◌, List, [], ◌∷◌, ◌++◌, Option, Some, None, is_some, Result, Ok, Err, OnOk, OnErr, IfOk, ◌⊎◌, ⊎_elim, inl, inr, refl, sym, ap, ◌∙◌, subst}
+use Rattle.std.specs.FinMap.{get}
+use Rattle.std.specs.Option.{option_and_then}
+use Rattle.std.proofs.lemmas.Bool.{and_parts}
+use Rattle.std.proofs.lemmas.Slice.Eq.{bytes_eq-Decides}
+use Rattle.std.proofs.lemmas.List.{append_assoc, append-nil, drop_more}
+use Rattle.std.proofs.Math.ListN.{drop_of_length-le, get_or}
+use Rattle.txn_record.specs.Documents.{after}
+use Rattle.txn_record.specs.States.{is_chosen_state, is_settled_state}
+use Rattle.txn_record.specs.declared.entry.Entry.{Entry}
+use Rattle.txn_record.specs.declared.entry.Outcome.{Outcome}
+use Rattle.txn_record.specs.declared.entry.Outcome.TheVariants as outcome
+use Rattle.txn_record.specs.declared.id.TxnId.{TxnId}
+use Rattle.txn_record.specs.declared.record.Record.{Record}
+use Rattle.txn_record.specs.declared.state.State.{State}
+use Rattle.txn_record.specs.declared.state.State.TheVariants as state
+use Rattle.store_trait.specs.Cells.{as_record}
+use Rattle.store_trait.specs.Contents.{Content}
+use Rattle.store_trait.specs.Edits.{hit, edited}
+use Rattle.store_trait.specs.Later.{may_follow}
+use Rattle.store_trait.specs.Meaning.{meaning}
+use Rattle.store_trait.specs.Names.{same_id}
+use Rattle.store_trait.specs.Soundness.{IsSound}
+use Rattle.store_trait.specs.Steps.{IsStep, IsQuiet}
+use Rattle.store_trait.specs.View.{look, record_at, chosen, settled, state_passes}
+use Rattle.store_trait.specs.declared.cell.Cell.{Cell}
+use Rattle.store_trait.specs.declared.cell.Cell.TheVariants as cell
+use Rattle.store_trait.specs.declared.edit.Edit.TheVariants as edit
+use Rattle.store_trait.specs.declared.name.Name.TheVariants as name
+use Rattle.store_laws.proofs.AfterEdits.{record_edit_queues}
+use Rattle.store_laws.proofs.AmongSettled.{rest_alone, alone_rest, rest_same}
+use Rattle.store_laws.proofs.Chained.{step_then}
+use Rattle.store_laws.proofs.Hits.{insert_hit, insert_must}
+use Rattle.store_laws.proofs.Misses.{quiet_itself}
+use Rattle.store_laws.proofs.PlainEdits.{plain_record}
+use Rattle.store_laws.proofs.RecordEdits.{insert_quiet}
+use Rattle.store_laws.proofs.TrailTells.{trail_records}
+use Rattle.txn_cli.proofs.Beside.{docs_stay}
+use Rattle.txn_cli.proofs.Runs.{run_means, run_legal}
+use Rattle.txn_cli.specs.Batches.{waits, Every, MayBegin, IsCalm, MayRun, HasEnded, StandsIn, record_line, batch_text, KeepsAllBut, WorksOnBatch, IsBegun, IsDoneWith, IsSubmitting, IsSettling}
+use Rattle.txn_cli.specs.Outcomes.{settled_state}
+use Rattle.txn_cli.specs.Play.{RanBatch}
+use Rattle.txn_cli.specs.Running.{HasRun}
+use Rattle.txn_cli.specs.Settling.{IsSettled, IsSubmitted, HasDocuments, IsWorth, WorksOn, KeepsOthers, preparing_record}
+use Rattle.txn_cli.specs.Texts.{state_line}
+use Rattle.txn_cli.specs.declared.done.Run.{Run}
+use Rattle.txn_cli.specs.declared.stage.Stage.TheVariants as stage
+use Rattle.txn_cli.specs.declared.waiting.Waiting.{Waiting}
+
+-- the item of a loop, and what is left behind it
+pub at_item : {A : Type 0} (xs : List A) (i : ℕ) (x : A) → x ≡ get_or xs i x → i < length xs → drop i xs ≡ x ∷ drop (i + 1) xs
+at_item xs i x is less = drop_more xs i x less ∙ ap (λ y. y ∷ drop (i + 1) xs) (sym is)
+
+pub none_left : {A : Type 0} (xs : List A) (i : ℕ) → length xs ≤ i → drop i xs ≡ []
+none_left xs i le = drop_of_length-le xs le
+
+pub every_map : (P Q : Waiting → Type 0) → ((txn : Waiting) → P txn → Q txn) → (waiting : List Waiting) → Every P waiting → Every Q waiting
+every_map P Q f [] h = tt
+every_map P Q f (txn ∷ waiting) h = (f txn h.0, every_map P Q f waiting h.1)
+
+id_itself : (id : TxnId) → same_id id id ≡ true
+id_itself id = (bytes_eq-Decides id.0 id.0).1 refl
+
+or_left : (a b : Bool) → (a || b) ≡ false → a ≡ false
+or_left false b e = refl
+or_left true b e = absurd (cc)
+
+or_right : (a b : Bool) → (a || b) ≡ false → b ≡ false
+or_right false b e = e
+or_right true b e = absurd (cc)
+
+not_false : (b : Bool) → not b ≡ true → b ≡ false
+not_false false e = refl
+not_false true e = absurd (cc)
+
+-- among transactions with ids of their own none of the later ones has the first one's
+apart_from : (id : TxnId) (waiting : List Waiting) → waits waiting id ≡ false → Every (λ txn. txn.id ≢ id) waiting
+apart_from id [] e = tt
+apart_from id (txn ∷ waiting) e =
+    (λ same. absurd (true_false (or_left (same_id txn.id id) (waits waiting id) e) (ap (λ (x : TxnId). same_id x id) same ∙ id_itself id)), apart_from id waiting (or_right (same_id txn.id id) (waits waiting id) e))
+  where
+    true_false : {b : Bool} → b ≡ false → b ≡ true → ⊥
+    true_false p q = cc
+
+-- each transaction of a batch is one that waits
+pub all_wait : (waiting : List Waiting) → Every (λ txn. waits waiting txn.id ≡ true) waiting
+all_wait [] = tt
+all_wait (txn ∷ waiting) = (ap (λ (b : Bool). b || waits waiting txn.id) (id_itself txn.id), every_map _ _ (λ other here. or_true (same_id txn.id other.id) (waits waiting other.id) here) waiting (all_wait waiting))
+  where
+    or_true : (a b : Bool) → b ≡ true → (a || b) ≡ true
+    or_true true b e = refl
+    or_true false b e = e
+
+both_every : (P Q R : Waiting → Type 0) → ((txn : Waiting) → P txn → Q txn → R txn) → (waiting : List Waiting) → Every P waiting → Every Q waiting → Every R waiting
+both_every P Q R f [] p q = tt
+both_every P Q R f (txn ∷ waiting) p q = (f txn p.0 q.0, both_every P Q R f waiting p.1 q.1)
+
+-- ---- calls for one transaction of a batch
+
+module _ {S : Type 0} (content : S → Content) (place : S → ℕ → Content) (calls : S → ℕ) where
+  others_all : (c d : Content) (id : TxnId) (waiting : List Waiting) → waits waiting id ≡ true → KeepsOthers c d id → KeepsAllBut c d waiting
+  others_all c d id waiting in_it keeps = record {
+    records = λ other out. keeps.records other (λ same. absurd (clash (subst (λ (x : TxnId). waits waiting x ≡ false) same out) in_it));
+    docs = keeps.docs;
+  }
+    where
+      clash : {b : Bool} → b ≡ false → b ≡ true → ⊥
+      clash p q = cc
+
+  all_then : {a b c : Content} (waiting : List Waiting) → KeepsAllBut a b waiting → KeepsAllBut b c waiting → KeepsAllBut a c waiting
+  all_then waiting one two = record { records = λ other out. two.records other out ∙ one.records other out; docs = λ key there. two.docs key (one.docs key there) }
+
+  pub batch_none : (s : S) (waiting : List Waiting) (order : List Entry) → IsSound (content s) → WorksOnBatch content place calls s s order order waiting
+  batch_none s waiting order sound = record {
+    run = λ mark base h. h;
+    step = (quiet_itself (content s) sound).step;
+    others = record { records = λ other out. refl; docs = λ key there. there };
+    decided = λ all. all;
+  }
+
+  pub batch_then : (a b c : S) (before between after : List Entry) (waiting : List Waiting) → WorksOnBatch content place calls a b before between waiting → WorksOnBatch content place calls b c between after waiting
+      → WorksOnBatch content place calls a c before after waiting
+  batch_then a b c before between after waiting one two = record {
+    run = λ mark base h. two.run mark base (one.run mark base h);
+    step = step_then one.step two.step;
+    others = all_then waiting one.others two.others;
+    decided = λ all. two.decided (one.decided all);
+  }
+
+  pub batch_works : (a b c : S) (before between after : List Entry) (waiting : List Waiting) (id : TxnId) → waits waiting id ≡ true → WorksOnBatch content place calls a b before between waiting
+      → WorksOn content place calls b c between after id → WorksOnBatch content place calls a c before after waiting
+  batch_works a b c before between after waiting id in_it one two = record {
+    run = λ mark base h. two.run mark base (one.run mark base h);
+    step = step_then one.step two.step;
+    others = all_then waiting one.others (others_all (content b) (content c) id waiting in_it two.others);
+    decided = λ all. two.decided (waits waiting) in_it (one.decided all);
+  }
+
+-- ---- submission
+
+-- a record that isn't there
+nobody : (c : Content) → IsSound c → (id : TxnId) → record_at c id ≡ None → get c (name.Record id) ≡ None
+unfolding record_at
+nobody c s id none = by (get c (name.Record id)) refl
+  where
+    some_none : (r : Record) → option_and_then as_record (get c (name.Record id)) ≡ Some r → ⊥
+    some_none r e = cc
+
+    by : (found : Option Cell) → get c (name.Record id) ≡ found → get c (name.Record id) ≡ None
+    by None e = e
+    by (Some (cell.Record rec)) e = absurd (some_none rec (ap (option_and_then as_record) e))
+    by (Some (cell.Doc doc)) e = absurd (cc (s.kinds (name.Record id) (cell.Doc doc) e))
+    by (Some (cell.Stash stash)) e = absurd (cc (s.kinds (name.Record id) (cell.Stash stash) e))
+    by (Some (cell.Nonce number)) e = absurd (cc (s.kinds (name.Record id) (cell.Nonce number) e))
+
+module _ (c : Content) (calm : IsCalm c) (txn : Waiting) where
+  pub submit_quietly : IsQuiet c (edited c (name.Record txn.id) (edit.InsertRecord (preparing_record txn)))
+  submit_quietly = insert_quiet c txn.id (preparing_record txn) calm.sound refl refl
+
+  pub submit_calm : IsCalm (edited c (name.Record txn.id) (edit.InsertRecord (preparing_record txn)))
+  submit_calm =
+      let e = edit.InsertRecord (preparing_record txn) in
+      record {
+        sound = submit_quietly.step.sound;
+        plain = plain_record c txn.id e calm.plain;
+        rests = rest_same submit_quietly.step.later.back (record_edit_queues c txn.id e) calm.rests;
+      }
+
+  pub submit_hits : record_at c txn.id ≡ None → is_some (hit (edit.InsertRecord (preparing_record txn)) (name.Record txn.id) (get c (name.Record txn.id))) ≡ true
+  submit_hits fresh = insert_must c txn.id (preparing_record txn) (nobody c calm.sound txn.id fresh) refl
+
+  pub submit_stands : record_at c txn.id ≡ None → IsSubmitted (edited c (name.Record txn.id) (edit.InsertRecord (preparing_record txn))) txn
+  submit_stands fresh = (insert_hit c txn.id (preparing_record txn) (submit_hits fresh)).now
+
+-- the edit was made, or the store was left as it was
+pub made_or_left : {T E : Type 0} (r : Result T E) (x d y : Content) → OnOk r (x ≡ d) → OnErr r (x ≡ y) → (x ≡ d) ⊎ (x ≡ y)
+made_or_left (Ok t) x d y made left = inl made
+made_or_left (Err e) x d y made left = inr left
+
+pub made_stands : {E : Type 0} (r : Result Bool E) (txn : Waiting) (x d : Content) (hits : Bool) → IfOk r (λ t. t ≡ hits) → hits ≡ true → OnOk r (x ≡ d) → IsSubmitted d txn → IfOk r (λ t. (t ≡ true) × IsSubmitted x txn)
+made_stands (Err e) txn x d hits told hit made stands = tt
+made_stands (Ok t) txn x d hits told hit made stands = (told ∙ hit, subst (λ (c : Content). IsSubmitted c txn) (sym made) stands)
+
+module _ {S : Type 0} (content : S → Content) (place : S → ℕ → Content) (calls : S → ℕ) where
+  pub submitting_begins : (s : S) (waiting : List Waiting) → MayRun (content s) waiting → IsSubmitting content place calls s s waiting waiting
+  submitting_begins s waiting may = record {
+    works = λ order. batch_none content place calls s waiting order may.calm.sound;
+    calm = may.calm;
+    may_begin = may.may_begin;
+    distinct = may.distinct;
+    within = all_wait waiting;
+    done = λ d keeps all. all;
+  }
+
+  pub submitting_next : (old now next : S) (waiting : List Waiting) (txn : Waiting) (left : List Waiting) → IsSubmitting content place calls old now waiting (txn ∷ left)
+      → ((order : List Entry) → WorksOn content place calls now next order order txn.id) → IsCalm (content next) → IsSubmitted (content next) txn → IsSubmitting content place calls old next waiting left
+  submitting_next old now next waiting txn left h works calm stands =
+      let distinct = and_parts _ _ h.distinct in
+      let others = (works []).others in
+      let apart = apart_from txn.id left (not_false (waits left txn.id) distinct.0) in
+      record {
+        works = λ order. batch_works content place calls old now next order order order waiting txn.id h.within.0 (h.works order) (works order);
+        calm = calm;
+        may_begin = both_every (λ other. other.id ≢ txn.id) (MayBegin (content now)) (MayBegin (content next)) (λ other apart may. record { fresh = others.records other.id apart ∙ may.fresh; docs = docs_stay (content now) (content next) other others.docs may.docs }) left apart h.may_begin.1;
+        distinct = distinct.1;
+        within = h.within.1;
+        done = λ d keeps all. h.done d (λ id rec there. keeps id rec (stays id rec there)) (keeps txn.id (preparing_record txn) stands, all);
+      }
+    where
+      both_ways : (o : Option Record) (rec : Record) → o ≡ Some rec → o ≡ None → ⊥
+      both_ways o rec p q = cc
+
+      stays : (id : TxnId) (rec : Record) → record_at (content now) id ≡ Some rec → record_at (content next) id ≡ Some rec
+      stays id rec there = (works []).others.records id (λ same. absurd (both_ways (record_at (content now) txn.id) rec (subst (λ (x : TxnId). record_at (content now) x ≡ Some rec) same there) h.may_begin.0.fresh)) ∙ there
+
+  pub submitting_ends : (old now : S) (waiting : List Waiting) → MayRun (content old) waiting → IsSubmitting content place calls old now waiting [] → IsBegun (content now) waiting
+  submitting_ends old now waiting may h = record {
+    calm = h.calm;
+    submitted = h.done (content now) (λ id rec there. there) tt;
+    docs = every_map (MayBegin (content old)) (HasDocuments (content now)) (λ txn m. docs_stay (content old) (content now) txn (h.works []).others.docs m.docs) waiting may.may_begin;
+    distinct = may.distinct;
+  }
+
+-- ---- settling
+
+-- a record that came to its end stays so
+settled_later : (c d : Content) (txn : Waiting) (o : Outcome) → IsStep c d → IsSettled c txn o → IsSettled d txn o
+unfolding look
+settled_later c d txn o step e =
+    let still = step.lost.records txn.id e.rec e.there in
+    record {
+      rec = still.now;
+      there = still.there;
+      ends = stays o still.now.state (subst (λ (s : State). may_follow s still.now.state ≡ true) e.ends still.goes.state);
+      ops = still.goes.ops ∙ e.ops;
+      info = still.goes.info ∙ e.info;
+    }
+  where
+    stays : (o : Outcome) (s : State) → may_follow (settled_state o) s ≡ true → s ≡ settled_state o
+    stays outcome.Applied state.Applied h = refl
+    stays outcome.Applied state.Preparing h = absurd (cc)
+    stays outcome.Applied state.Prepared h = absurd (cc)
+    stays outcome.Applied state.Aborting h = absurd (cc)
+    stays outcome.Applied state.Applying h = absurd (cc)
+    stays outcome.Applied state.Aborted h = absurd (cc)
+    stays outcome.Aborted state.Aborted h = refl
+    stays outcome.Aborted state.Preparing h = absurd (cc)
+    stays outcome.Aborted state.Prepared h = absurd (cc)
+    stays outcome.Aborted state.Aborting h = absurd (cc)
+    stays outcome.Aborted state.Applying h = absurd (cc)
+    stays outcome.Aborted state.Applied h = absurd (cc)
+
+-- the line of a transaction that came to its end
+ended_line : (c : Content) (txn : Waiting) (o : Outcome) → IsSettled c txn o → record_line txn.id (record_at c txn.id) ≡ state_line txn.id (settled_state o)
+ended_line c txn o e = ap (record_line txn.id) e.there ∙ ap (state_line txn.id) e.ends
+
+settled_now : (c : Content) (txn : Waiting) (o : Outcome) → IsSettled c txn o → settled (look c) txn.id ≡ true
+unfolding look settled
+settled_now c txn o e = ap (state_passes is_settled_state) e.there ∙ by o e.rec.state e.ends
+  where
+    by : (o : Outcome) (s : State) → s ≡ settled_state o → is_settled_state s ≡ true
+    by outcome.Applied s e = ap is_settled_state e
+    by outcome.Aborted s e = ap is_settled_state e
+
+-- what a transaction rests on as it begins
+pub begins_worth : (c : Content) (txn : Waiting) (left : List Waiting) → IsBegun c (txn ∷ left) → IsWorth c txn stage.Draw
+begins_worth c txn left b = record { sound = b.calm.sound; plain = b.calm.plain; alone = rest_alone txn.id b.calm.rests; docs = b.docs.0; stage = b.submitted.0 }
+
+module _ {S : Type 0} (content : S → Content) (place : S → ℕ → Content) (calls : S → ℕ) where
+  pub settling_begins : (s : S) (order : List Entry) (waiting : List Waiting) → IsBegun (content s) waiting → IsSettling content place calls s s order order waiting waiting []
+  settling_begins s order waiting b = record {
+    works = batch_none content place calls s waiting order b.calm.sound;
+    begun = b;
+    within = all_wait waiting;
+    done = λ d step all. all;
+    text = λ d step. refl;
+  }
+
+  pub settling_next : (old now next : S) (before order after : List Entry) (waiting : List Waiting) (txn : Waiting) (left : List Waiting) (lines more : List ℕ) (o : Outcome)
+      → IsSettling content place calls old now before order waiting (txn ∷ left) lines
+      → WorksOn content place calls now next order after txn.id → IsWorth (content next) txn (stage.Settled o) → more ≡ lines ++ state_line txn.id (settled_state o)
+      → IsSettling content place calls old next before after waiting left more
+  settling_next old now next before order after waiting txn left lines more o h works worth printed =
+      let distinct = and_parts _ _ h.begun.distinct in
+      let apart = apart_from txn.id left (not_false (waits left txn.id) distinct.0) in
+      record {
+        works = batch_works content place calls old now next before order after waiting txn.id h.within.0 h.works works;
+        begun = record {
+          calm = record { sound = worth.sound; plain = worth.plain; rests = alone_rest txn.id worth.alone (settled_now (content next) txn o worth.stage) };
+          submitted = both_every (λ other. other.id ≢ txn.id) (IsSubmitted (content now)) (IsSubmitted (content next)) (λ other apart there. works.others.records other.id apart ∙ there) left apart h.begun.submitted.1;
+          docs = every_map (HasDocuments (content now)) (HasDocuments (content next)) (λ other docs. docs_stay (content now) (content next) other works.others.docs docs) left h.begun.docs.1;
+          distinct = distinct.1;
+        };
+        within = h.within.1;
+        done = λ d step all. h.done d (step_then works.step step) (record { outcome = o; settled = settled_later (content next) d txn o step worth.stage }, all);
+        text = λ d step.
+            h.text d (step_then works.step step)
+            ∙ ap (λ (l : List ℕ). lines ++ (l ++ batch_text d left)) (ended_line d txn o (settled_later (content next) d txn o step worth.stage))
+            ∙ sym (append_assoc lines (state_line txn.id (settled_state o)) (batch_text d left))
+            ∙ ap (λ (l : List ℕ). l ++ batch_text d left) (sym printed);
+      }
+
+  pub settling_ends : (old now : S) (before order : List Entry) (waiting : List Waiting) (lines : List ℕ) → IsSettling content place calls old now before order waiting [] lines → IsDoneWith (content now) waiting lines
+  settling_ends old now before order waiting lines h =
+      let same = (quiet_itself (content now) h.begun.calm.sound).step in
+      record {
+        calm = h.begun.calm;
+        ended = h.done (content now) same tt;
+        text = sym (h.text (content now) same ∙ append-nil lines);
+      }
+
+-- ---- the Run
+
+chosen_end : (o : Outcome) (s : State) → s ≡ settled_state o → is_chosen_state s ≡ true
+chosen_end outcome.Applied s e = ap is_chosen_state e
+chosen_end outcome.Aborted s e = ap is_chosen_state e
+
+unchosen : (c : Content) (id : TxnId) → record_at c id ≡ None → chosen (look c) id ≡ false
+unfolding look chosen
+unchosen c id none = ap (state_passes is_chosen_state) none
+
+pub ran_batch : {S : Type 0} (content : S → Content) (place : S → ℕ → Content) (calls : S → ℕ) (old now : S) (waiting : List Waiting) (run : Run) (lines : List ℕ)
+    → MayRun (content old) waiting → place old (calls old) ≡ content old → place now (calls now) ≡ content now
+    → run.mark ≡ calls old → run.base ≡ meaning (content old)
+    → WorksOnBatch content place calls old now [] run.order waiting → IsDoneWith (content now) waiting lines
+    → HasRun (place now) run.mark (calls now) run.base run.order
+    → place now run.mark ≡ content old
+    → RanBatch (content old) (content now) waiting run lines
+ran_batch content place calls old now waiting run lines may was is mark base works done has from = record {
+  opens = may.calm.sound;
+  closes = done.calm.sound;
+  base = base;
+  legal = run_legal (place now) run.mark (calls now) run.base run.order has;
+  means = ap meaning (sym is) ∙ run_means (place now) run.mark (calls now) run.base run.order has;
+  stand = both_every (MayBegin (content old)) (HasEnded (content now)) (StandsIn (content now) run.order) stands waiting may.may_begin done.ended;
+  only = works.decided refl;
+  others = works.others.records;
+  text = done.text;
+}
+  where
+    stands : (txn : Waiting) → MayBegin (content old) txn → HasEnded (content now) txn → StandsIn (content now) run.order txn
+    stands txn m e = record {
+      ended = e;
+      entry = ⊎_elim (λ was_chosen. absurd (clash (subst (λ (x : Content). chosen (look x) txn.id ≡ true) from was_chosen) (unchosen (content old) txn.id m.fresh))) (λ recorded. recorded)
+          (trail_records (place now) run.mark has.made run.base run.order has.trail txn.id e.settled.rec (ap (λ (x : Content). record_at x txn.id) (ap (place now) (sym has.counted) ∙ is) ∙ e.settled.there) (chosen_end e.outcome e.settled.rec.state e.settled.ends));
+    }
+      where
+        clash : {b : Bool} → b ≡ true → b ≡ false → ⊥
+        clash p q = cc

@@ -1,0 +1,114 @@
+-- How a call comes from line to line, with what it writes.
+use Rattle.std.proofs.Common.{◌≡◌, ◌≢◌, ℕ, ◌+◌, Bool, List, [], ◌++◌, Option, Some, None, Result, Ok, Err, IfErr, IsTrue, ◌⊎◌, ⊎_elim, inl, refl, sym, ap, ◌∙◌, subst}
+use Rattle.std.specs.FinMap.{empty}
+use Rattle.std.proofs.lemmas.List.{append-nil, append_assoc}
+use Rattle.store_trait.specs.Contents.{Content}
+use Rattle.txn_cli.specs.Batches.{IsCalm, MayRun}
+use Rattle.txn_io.specs.Lines.{first_line, after_line, line_cost}
+use Rattle.txn_cli.specs.Play.{Progress, opening, Plays, IsRefused, RefusedAs}
+use Rattle.txn_cli.specs.Statements.{line_in}
+use Rattle.txn_cli.specs.Texts.{fault_text}
+use Rattle.txn_cli.specs.declared.statement.ScriptFault.{ScriptFault}
+use Rattle.txn_cli.specs.declared.statement.Statement.{Statement}
+use Rattle.txn_cli.specs.declared.statement.Statement.TheVariants as statement
+use Rattle.txn_cli.specs.Reading.{HasCome, HasDoneLine, HasRunRest, HasPlayed, HasStopped, HasRefused}
+use Rattle.txn_cli.specs.Runs.{GrowsByOne, RunsGoOn}
+use Rattle.txn_cli.specs.Sessions.{IsHeld, at}
+use Rattle.txn_cli.specs.declared.done.Run.{Run}
+use Rattle.txn_cli.specs.declared.fault.Fault.{Fault}
+use Rattle.txn_cli.specs.declared.fault.Fault.TheVariants as fault
+use Rattle.txn_cli.specs.declared.session.Session.{Session}
+use Rattle.txn_cli.proofs.Playing.{one_more, ends}
+use Rattle.txn_cli.proofs.Sessions.{opens_calm, nothing_waits}
+
+-- ---- as the call begins
+
+module _ {S : Type 0} (content : S → Content) (place : S → ℕ → Content) (calls : S → ℕ) (old new : Session S) (begins : at content old [] ≡ opening (content old.store)) where
+  no_runs : old.runs.items ≡ []
+  no_runs = ap (λ (p : Progress). p.runs) begins
+
+  pub begins_runs : new.runs.items ≡ old.runs.items → RunsGoOn (place new.store) new.runs.items (calls new.store)
+  begins_runs runs = subst (λ (rs : List Run). RunsGoOn (place new.store) rs (calls new.store)) (sym (runs ∙ no_runs)) tt
+
+  pub begins_held : content old.store ≡ empty → content new.store ≡ content old.store → new.batch ≡ old.batch → new.runs.items ≡ old.runs.items → new.begun ≡ old.begun → IsHeld content place calls new
+  begins_held nothing same batch runs begun =
+      let none = ap (λ (p : Progress). p.waiting) begins in
+      record {
+        may_run = subst (MayRun (content new.store)) (sym (batch ∙ none)) (nothing_waits (content new.store) (subst IsCalm (sym (same ∙ nothing)) opens_calm));
+        runs = begins_runs runs;
+        unbegun = λ e. (batch ∙ none, runs ∙ no_runs);
+      }
+
+module _ {S : Type 0} (content : S → Content) (old new : Session S) (script : List ℕ) (sink_tells : Bool) (written : List ℕ) (begins : at content old [] ≡ opening (content old.store)) where
+  pub begins_come : content new.store ≡ content old.store → new.batch ≡ old.batch → new.runs.items ≡ old.runs.items → new.begun ≡ old.begun → HasCome content script (opening (content old.store)) 0 0 script new sink_tells written written
+  begins_come same batch runs begun = record {
+    printed = [];
+    plays = record { plays = subst (λ (p : Progress). Plays script (opening (content old.store)) 0 p) (sym (still ∙ begins)) Plays.Opens; rest = refl; taken = refl };
+    writes = λ told. sym (append-nil written);
+  }
+    where
+      still : at content new [] ≡ at content old []
+      still = λ i. record { content = same i; waiting = batch i; begun = begun i; runs = runs i; printed = [] }
+
+pub begins_stopped : (script : List ℕ) (start : Progress) (why : Fault) (runs : List Run) (sink_tells : Bool) (written : List ℕ) → start.printed ≡ [] → runs ≡ start.runs → HasStopped script start why runs sink_tells written written
+begins_stopped script start why runs sink_tells written none kept = record { done = 0; last = start; plays = Plays.Opens; kept = inl kept; writes = λ told other. sym (ap (λ (l : List ℕ). written ++ l) none ∙ append-nil written) }
+
+-- the last line of a refusal was written, or another refusal came
+pub refuses_out : (script : List ℕ) (start : Progress) (why told : Fault) (runs : List Run) (sink_tells : Bool) (old_written written now : List ℕ) (rose : Type 0) → HasStopped script start why runs sink_tells old_written written
+    → (told ≡ why) ⊎ (told ≡ fault.OutOfMemory) ⊎ ((told ≡ fault.Output) × rose)
+    → (IsTrue sink_tells → told ≢ fault.Output → told ≢ fault.OutOfMemory → now ≡ written ++ fault_text told)
+    → HasRefused script start told runs sink_tells old_written now
+refuses_out script start why told runs sink_tells old_written written now rose h kept wrote = record {
+  done = h.done;
+  last = h.last;
+  plays = h.plays;
+  kept = h.kept;
+  writes = λ tells other enough.
+      wrote tells other enough
+      ∙ ap (λ (l : List ℕ). l ++ fault_text told) (h.writes tells (λ same. other (⊎_elim (λ it. it ∙ same) (⊎_elim (λ memory. absurd (enough memory)) (λ output. output.0)) kept)))
+      ∙ append_assoc old_written h.last.printed (fault_text told);
+}
+
+-- what is refused doesn't hang on what was printed
+refused_as : {S : Type 0} (content : S → Content) (session : Session S) (a b : List ℕ) (r : Result (Option Statement) ScriptFault) → RefusedAs r (at content session a) → RefusedAs r (at content session b)
+refused_as content session a b (Ok None) h = h
+refused_as content session a b (Ok (Some (statement.Doc key body))) h = h
+refused_as content session a b (Ok (Some (statement.Submit id ops))) h = h
+refused_as content session a b (Ok (Some statement.Go)) h = h
+refused_as content session a b (Ok (Some statement.Show)) h = h
+refused_as content session a b (Err e) h = h
+
+pub refused_alike : {S : Type 0} (content : S → Content) (session : Session S) (a b line : List ℕ) → IsRefused line (at content session a) → IsRefused line (at content session b)
+refused_alike content session a b line h = refused_as content session a b (line_in line) h
+
+-- ---- from line to line
+
+module _ {S : Type 0} (content : S → Content) (script : List ℕ) (start : Progress) (n taken : ℕ) (input : List ℕ) (session : Session S) (sink_tells : Bool) (old_written written : List ℕ) where
+  pub stops : (why : Fault) (runs : List Run) (now : List ℕ) → HasCome content script start n taken input session sink_tells old_written written → GrowsByOne session.runs.items runs → (IsTrue sink_tells → why ≢ fault.Output → now ≡ written)
+      → HasStopped script start why runs sink_tells old_written now
+  stops why runs now h kept unwritten = record { done = n; last = at content session h.printed; plays = h.plays.plays; kept = kept; writes = λ told other. unwritten told other ∙ h.writes told }
+
+  -- the same, of how the batch that waits at the end is run
+  pub stops_at_end : (result : Result (Unit {0}) Fault) (runs : List Run) (now : List ℕ) → HasCome content script start n taken input session sink_tells old_written written → GrowsByOne session.runs.items runs → (IsTrue sink_tells → IfErr result (λ f. f ≢ fault.Output → now ≡ written))
+      → IfErr result (λ f. HasStopped script start f runs sink_tells old_written now)
+  stops_at_end (Ok x) runs now h kept unwritten = tt
+  stops_at_end (Err f) runs now h kept unwritten = stops f runs now h kept unwritten
+
+  pub plays_out : (next : Session S) (now : List ℕ) → HasCome content script start n taken input session sink_tells old_written written → first_line input ≡ None
+      → HasRunRest content session next sink_tells written now → HasPlayed script start (content next.store) next.runs.items sink_tells old_written now
+  plays_out next now h none rest = record {
+    end = at content next (h.printed ++ rest.lines);
+    plays = ends script start n taken input (at content session h.printed) (at content next (h.printed ++ rest.lines)) h.plays none (rest.runs h.printed);
+    holds = refl;
+    kept = refl;
+    writes = λ told. rest.writes told ∙ ap (λ (l : List ℕ). l ++ rest.lines) (h.writes told) ∙ append_assoc old_written h.printed rest.lines;
+  }
+
+  pub comes_further : (next : Session S) (now : List ℕ) (line : List ℕ) (new_taken : ℕ) (new_input : List ℕ) → HasCome content script start n taken input session sink_tells old_written written → first_line input ≡ Some line
+      → HasDoneLine content line session next sink_tells written now → new_input ≡ after_line input → new_taken ≡ taken + line_cost input
+      → HasCome content script start (n + 1) new_taken new_input next sink_tells old_written now
+  comes_further next now line new_taken new_input h first does rest cost = record {
+    printed = h.printed ++ does.lines;
+    plays = one_more script start n taken input (at content session h.printed) (at content next (h.printed ++ does.lines)) line new_taken new_input h.plays first (does.plays h.printed) rest cost;
+    writes = λ told. does.writes told ∙ ap (λ (l : List ℕ). l ++ does.lines) (h.writes told) ∙ append_assoc old_written h.printed does.lines;
+  }

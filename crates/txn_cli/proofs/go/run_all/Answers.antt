@@ -1,0 +1,8 @@
+use Rattle.txn_cli.proofs.Batches.{batch_then}
+use Rattle.txn_cli.proofs.go.run_all.Goals as goal
+
+pub returns-in-Ok-clause-works : goal.returns-in-Ok-clause-works
+returns-in-Ok-clause-works g c = λ told. batch_then _ _ _ _ _ _ _ _ _ _ (c.submit_all.ensures.works told c.args.order.now.items) (c.settle_all.ensures.works told)
+
+pub returns-in-Err-clause-works : goal.returns-in-Err-clause-works
+returns-in-Err-clause-works g c = λ told. c.submit_all.ensures.works told c.args.order.now.items

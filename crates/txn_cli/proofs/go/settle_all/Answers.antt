@@ -1,0 +1,36 @@
+use Rattle.std.proofs.Common.{subst, List, rules}
+use Rattle.txn_cli.specs.Batches.{IsSettling}
+use Rattle.txn_cli.specs.declared.waiting.Waiting.{Waiting}
+use Rattle.txn_cli.proofs.Batches.{at_item, none_left, settling_begins, settling_next, settling_ends, begins_worth, batch_works}
+use Rattle.txn_cli.proofs.Playing.{calls_then}
+use Rattle.txn_cli.proofs.go.settle_all.Goals as goal
+
+pub loop-txn-init : goal.loop-txn-init
+loop-txn-init g c = record {
+  told = λ told. rw c.new-lines.ensures.items (settling_begins g.S.Store.content g.S.Store.place g.S.Store.calls _ _ _ (c.requires.begun told));
+  made = search rules;
+}
+
+pub settle-requires : goal.settle-requires
+settle-requires g c = record { worth = λ told. begins_worth _ _ _ (subst (λ (l : List Waiting). IsSettling g.S.Store.content g.S.Store.place g.S.Store.calls c.args.store.now c.loop-txn.store c.args.order.now.items c.loop-txn.order.items c.args.batch.now l c.loop-txn.lines.items) (at_item _ _ _ c.txn-item.is c.loop-txn-test.true) (c.loop-txn.invariant.told told)).begun }
+
+pub returns-in_err-push_outcome-in-Ok-clause-works : goal.returns-in_err-push_outcome-in-Ok-clause-works
+returns-in_err-push_outcome-in-Ok-clause-works g c = λ told.
+    let h = subst (λ (l : List Waiting). IsSettling g.S.Store.content g.S.Store.place g.S.Store.calls c.args.store.now c.loop-txn.store c.args.order.now.items c.loop-txn.order.items c.args.batch.now l c.loop-txn.lines.items) (at_item _ _ _ c.txn-item.is c.loop-txn-test.true) (c.loop-txn.invariant.told told) in
+    batch_works _ _ _ _ _ _ _ _ _ _ _ h.within.0 h.works (c.settle.ensures.works told)
+
+pub returns-in-Err-clause-works : goal.returns-in-Err-clause-works
+returns-in-Err-clause-works g c = λ told.
+    let h = subst (λ (l : List Waiting). IsSettling g.S.Store.content g.S.Store.place g.S.Store.calls c.args.store.now c.loop-txn.store c.args.order.now.items c.loop-txn.order.items c.args.batch.now l c.loop-txn.lines.items) (at_item _ _ _ c.txn-item.is c.loop-txn-test.true) (c.loop-txn.invariant.told told) in
+    batch_works _ _ _ _ _ _ _ _ _ _ _ h.within.0 h.works (c.settle.ensures.works told)
+
+pub loop-txn-preserved : goal.loop-txn-preserved
+loop-txn-preserved g c = record {
+  told = λ told.
+      let h = subst (λ (l : List Waiting). IsSettling g.S.Store.content g.S.Store.place g.S.Store.calls c.args.store.now c.loop-txn.store c.args.order.now.items c.loop-txn.order.items c.args.batch.now l c.loop-txn.lines.items) (at_item _ _ _ c.txn-item.is c.loop-txn-test.true) (c.loop-txn.invariant.told told) in
+      settling_next _ _ _ _ _ _ _ _ _ _ _ _ _ _ c.in-Ok.outcome h (c.settle.ensures.works told) (c.in-Ok.ensures.settled told) c.in_ok-push_outcome-in-Ok.ensures;
+  made = calls_then _ _ _ _ _ _ _ _ c.loop-txn.invariant.made c.settle.ensures.calls;
+}
+
+pub returns-clause-done : goal.returns-clause-done
+returns-clause-done g c = λ told. settling_ends _ _ _ _ _ _ _ _ _ (subst (λ (l : List Waiting). IsSettling g.S.Store.content g.S.Store.place g.S.Store.calls c.args.store.now c.loop-txn.store c.args.order.now.items c.loop-txn.order.items c.args.batch.now l c.loop-txn.lines.items) (none_left _ _ c.loop-txn-test.false) (c.loop-txn.invariant.told told))

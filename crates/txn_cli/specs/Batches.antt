@@ -1,0 +1,133 @@
+-- A batch: transactions that wait, are submitted, and are settled.
+use Rattle.std.specs.Prelude.{◌≡◌, true, false, Bool, not, ◌&&◌, ℕ, List, [], ◌∷◌, ◌++◌, Option, Some, None, IsTrue}
+use Rattle.std.specs.List.{list_any, list_all, flat_map}
+use Rattle.txn_record.specs.declared.entry.Entry.{Entry}
+use Rattle.txn_record.specs.declared.entry.Outcome.{Outcome}
+use Rattle.txn_record.specs.declared.id.TxnId.{TxnId}
+use Rattle.txn_record.specs.declared.key.Key.{Key}
+use Rattle.txn_record.specs.declared.record.Record.{Record}
+use Rattle.store_trait.specs.Calls.{CallsGoOn}
+use Rattle.store_trait.specs.Contents.{Content}
+use Rattle.store_trait.specs.Names.{same_id}
+use Rattle.store_trait.specs.Soundness.{IsSound}
+use Rattle.store_trait.specs.Steps.{IsStep}
+use Rattle.store_trait.specs.View.{look, record_at}
+use Rattle.store_laws.specs.Alone.{IsAtRest}
+use Rattle.store_laws.specs.Plain.{IsPlain}
+use Rattle.store_laws.specs.Trail.{IsRecorded}
+use Rattle.txn_cli.specs.Running.{RunGoesOn}
+use Rattle.txn_cli.specs.Settling.{IsSettled, IsSubmitted, HasDocuments}
+use Rattle.txn_cli.specs.Store.{has_document}
+use Rattle.txn_cli.specs.Texts.{state_line}
+use Rattle.txn_cli.specs.declared.waiting.Waiting.{Waiting}
+
+abbrev pub waits : List Waiting → TxnId → Bool
+waits waiting id = list_any (λ other. same_id other.id id) waiting
+
+-- each transaction has an id of its own
+abbrev pub are_distinct : List Waiting → Bool
+are_distinct [] = true
+are_distinct (txn ∷ waiting) = not (waits waiting txn.id) && are_distinct waiting
+
+-- each transaction has the property
+abbrev pub Every : (Waiting → Type 0) → List Waiting → Type 0
+Every P [] = Unit {0}
+Every P (txn ∷ waiting) = P txn × Every P waiting
+
+-- ---- before it is run
+
+-- no record has its id, and the documents of its keys are there
+pub record MayBegin (c : Content) (txn : Waiting) : Type 0 where
+  pub fresh : record_at c txn.id ≡ None
+  pub docs : HasDocuments c txn
+
+-- Sound content of documents alone, in whose queues nobody has anything left to do.
+pub record IsCalm (c : Content) : Type 0 where
+  pub sound : IsSound c
+  pub plain : IsPlain c
+  pub rests : IsAtRest (look c)
+
+-- between two statements: calm content, and a batch that may begin
+pub record MayRun (c : Content) (waiting : List Waiting) : Type 0 where
+  pub calm : IsCalm c
+  pub may_begin : Every (MayBegin c) waiting
+  pub distinct : are_distinct waiting ≡ true
+
+-- ---- once it was run
+
+-- a transaction came to its end, and this is how
+pub record HasEnded (c : Content) (txn : Waiting) : Type 0 where
+  pub outcome : Outcome
+  pub settled : IsSettled c txn outcome
+
+-- A transaction is done: its record is applied or aborted, with its operations, and the order has its
+-- entry.
+pub record StandsIn (c : Content) (order : List Entry) (txn : Waiting) : Type 0 where
+  pub ended : HasEnded c txn
+  pub entry : IsRecorded order ended.settled.rec
+
+-- the line of a record that is there
+abbrev pub record_line : TxnId → Option Record → List ℕ
+record_line id None = []
+record_line id (Some rec) = state_line id rec.state
+
+-- a line for each transaction of the batch, in its order
+abbrev pub batch_text : Content → List Waiting → List ℕ
+batch_text c waiting = flat_map (λ txn. record_line txn.id (record_at c txn.id)) waiting
+
+-- ---- while it is run
+
+-- no record is touched but those of the batch, and no document goes
+pub record KeepsAllBut (old new : Content) (waiting : List Waiting) : Type 0 where
+  pub records : (other : TxnId) → waits waiting other ≡ false → record_at new other ≡ record_at old other
+  pub docs : (key : Key) → has_document old key ≡ true → has_document new key ≡ true
+
+-- Calls for the transactions of a batch: any run goes on with them, by decisions on these alone.
+pub record WorksOnBatch {S : Type 0} (content : S → Content) (place : S → ℕ → Content) (calls : S → ℕ) (old new : S) (before after : List Entry) (waiting : List Waiting) : Type 0 where
+  pub run : RunGoesOn place calls old new before after
+  pub step : IsStep (content old) (content new)
+  pub others : KeepsAllBut (content old) (content new) waiting
+  pub decided : list_all (λ entry. waits waiting entry.id) before ≡ true → list_all (λ entry. waits waiting entry.id) after ≡ true
+
+-- every transaction of the batch was submitted
+pub record IsBegun (c : Content) (waiting : List Waiting) : Type 0 where
+  pub calm : IsCalm c
+  pub submitted : Every (IsSubmitted c) waiting
+  pub docs : Every (HasDocuments c) waiting
+  pub distinct : are_distinct waiting ≡ true
+
+-- every transaction of the batch came to its end, and the lines say how
+pub record IsDoneWith (c : Content) (waiting : List Waiting) (lines : List ℕ) : Type 0 where
+  pub calm : IsCalm c
+  pub ended : Every (HasEnded c) waiting
+  pub text : lines ≡ batch_text c waiting
+
+-- ---- the loops, with what is left of the batch
+
+-- a record that is there stays as it is
+abbrev pub KeepsPresent : Content → Content → Type 0
+KeepsPresent old new = (id : TxnId) (rec : Record) → record_at old id ≡ Some rec → record_at new id ≡ Some rec
+
+pub record IsSubmitting {S : Type 0} (content : S → Content) (place : S → ℕ → Content) (calls : S → ℕ) (old now : S) (waiting left : List Waiting) : Type 0 where
+  pub works : (order : List Entry) → WorksOnBatch content place calls old now order order waiting
+  pub calm : IsCalm (content now)
+  pub may_begin : Every (MayBegin (content now)) left
+  pub distinct : are_distinct left ≡ true
+  pub within : Every (λ txn. waits waiting txn.id ≡ true) left
+  pub done : (d : Content) → KeepsPresent (content now) d → Every (IsSubmitted d) left → Every (IsSubmitted d) waiting
+
+pub record IsSettling {S : Type 0} (content : S → Content) (place : S → ℕ → Content) (calls : S → ℕ) (old now : S) (before order : List Entry) (waiting left : List Waiting) (lines : List ℕ) : Type 0 where
+  pub works : WorksOnBatch content place calls old now before order waiting
+  pub begun : IsBegun (content now) left
+  pub within : Every (λ txn. waits waiting txn.id ≡ true) left
+  pub done : (d : Content) → IsStep (content now) d → Every (HasEnded d) left → Every (HasEnded d) waiting
+  pub text : (d : Content) → IsStep (content now) d → batch_text d waiting ≡ lines ++ batch_text d left
+
+-- the two loops, over a store that may tell nothing
+pub record IsSubmittingBatch {S : Type 0} (tells : Bool) (content : S → Content) (place : S → ℕ → Content) (calls faults : S → ℕ) (old now : S) (waiting left : List Waiting) : Type 0 where
+  pub told : IsTrue tells → IsSubmitting content place calls old now waiting left
+  pub made : CallsGoOn tells content place calls faults old now
+
+pub record IsSettlingBatch {S : Type 0} (tells : Bool) (content : S → Content) (place : S → ℕ → Content) (calls faults : S → ℕ) (old now : S) (before order : List Entry) (waiting left : List Waiting) (lines : List ℕ) : Type 0 where
+  pub told : IsTrue tells → IsSettling content place calls old now before order waiting left lines
+  pub made : CallsGoOn tells content place calls faults old now

@@ -1,0 +1,6 @@
+pub mod Gathering
+pub mod Invariants
+pub mod Limits
+pub mod Newlines
+pub mod Pieces
+pub mod Script

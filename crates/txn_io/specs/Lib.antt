@@ -1,0 +1,6 @@
+pub mod Faults
+pub mod Gathering
+pub mod Lines
+pub mod Memory
+pub mod Pour
+pub mod Script
