@@ -7,13 +7,13 @@ use Rattle.store_trait.specs.Meaning.{meaning}
 use Rattle.store_trait.specs.Soundness.{IsSound}
 use Rattle.txn_cli.specs.Batches.{MayRun, WorksOnBatch, IsDoneWith}
 use Rattle.txn_cli.specs.Play.{RanBatch, HasRunBatch}
-use Rattle.txn_cli.specs.Running.{HasRun, OnlyReads}
+use Rattle.txn_runner.specs.Running.{HasRun, OnlyReads}
 use Rattle.txn_cli.specs.Runs.{RunsGoOn}
 use Rattle.txn_cli.specs.declared.done.Run.{Run}
-use Rattle.txn_cli.specs.declared.waiting.Waiting.{Waiting}
+use Rattle.txn_runner.specs.declared.waiting.Waiting.{Waiting}
 use Rattle.txn_cli.proofs.Batches.{ran_batch}
 use Rattle.txn_cli.proofs.OnlyReading.{runs_only_read}
-use Rattle.txn_cli.proofs.Running.{run_opens}
+use Rattle.txn_runner.proofs.Running.{run_opens}
 use Rattle.txn_cli.proofs.Runs.{runs_same, runs_add}
 
 pub if_ok : {T E : Type 0} (r : Result T E) (P Q : T → Type 0) → IfOk r P → ((x : T) → P x → Q x) → IfOk r Q

@@ -36,17 +36,17 @@ use Rattle.store_laws.proofs.Misses.{quiet_itself}
 use Rattle.store_laws.proofs.PlainEdits.{plain_record}
 use Rattle.store_laws.proofs.RecordEdits.{insert_quiet}
 use Rattle.store_laws.proofs.TrailTells.{trail_records}
-use Rattle.txn_cli.proofs.Beside.{docs_stay}
+use Rattle.txn_runner.proofs.Beside.{docs_stay}
 use Rattle.txn_cli.proofs.Runs.{run_means, run_legal}
-use Rattle.txn_cli.specs.Batches.{waits, Every, MayBegin, IsCalm, MayRun, HasEnded, StandsIn, record_line, batch_text, KeepsAllBut, WorksOnBatch, IsBegun, IsDoneWith, IsSubmitting, IsSettling}
-use Rattle.txn_cli.specs.Outcomes.{settled_state}
+use Rattle.txn_cli.specs.Batches.{waits, Every, MayBegin, MayRun, HasEnded, StandsIn, record_line, batch_text, KeepsAllBut, WorksOnBatch, IsBegun, IsDoneWith, IsSubmitting, IsSettling}
+use Rattle.txn_runner.specs.Calm.{IsCalm}
 use Rattle.txn_cli.specs.Play.{RanBatch}
-use Rattle.txn_cli.specs.Running.{HasRun}
-use Rattle.txn_cli.specs.Settling.{IsSettled, IsSubmitted, HasDocuments, IsWorth, WorksOn, KeepsOthers, preparing_record}
+use Rattle.txn_runner.specs.Running.{HasRun}
+use Rattle.txn_runner.specs.Settling.{settled_state, IsSettled, IsSubmitted, HasDocuments, IsWorth, WorksOn, KeepsOthers, preparing_record}
 use Rattle.txn_cli.specs.Texts.{state_line}
 use Rattle.txn_cli.specs.declared.done.Run.{Run}
-use Rattle.txn_cli.specs.declared.stage.Stage.TheVariants as stage
-use Rattle.txn_cli.specs.declared.waiting.Waiting.{Waiting}
+use Rattle.txn_runner.specs.declared.stage.Stage.TheVariants as stage
+use Rattle.txn_runner.specs.declared.waiting.Waiting.{Waiting}
 
 -- the item of a loop, and what is left behind it
 pub at_item : {A : Type 0} (xs : List A) (i : ℕ) (x : A) → x ≡ get_or xs i x → i < length xs → drop i xs ≡ x ∷ drop (i + 1) xs
@@ -138,49 +138,6 @@ module _ {S : Type 0} (content : S → Content) (place : S → ℕ → Content) 
   }
 
 -- ---- submission
-
--- a record that isn't there
-nobody : (c : Content) → IsSound c → (id : TxnId) → record_at c id ≡ None → get c (name.Record id) ≡ None
-unfolding record_at
-nobody c s id none = by (get c (name.Record id)) refl
-  where
-    some_none : (r : Record) → option_and_then as_record (get c (name.Record id)) ≡ Some r → ⊥
-    some_none r e = cc
-
-    by : (found : Option Cell) → get c (name.Record id) ≡ found → get c (name.Record id) ≡ None
-    by None e = e
-    by (Some (cell.Record rec)) e = absurd (some_none rec (ap (option_and_then as_record) e))
-    by (Some (cell.Doc doc)) e = absurd (cc (s.kinds (name.Record id) (cell.Doc doc) e))
-    by (Some (cell.Stash stash)) e = absurd (cc (s.kinds (name.Record id) (cell.Stash stash) e))
-    by (Some (cell.Nonce number)) e = absurd (cc (s.kinds (name.Record id) (cell.Nonce number) e))
-
-module _ (c : Content) (calm : IsCalm c) (txn : Waiting) where
-  pub submit_quietly : IsQuiet c (edited c (name.Record txn.id) (edit.InsertRecord (preparing_record txn)))
-  submit_quietly = insert_quiet c txn.id (preparing_record txn) calm.sound refl refl
-
-  pub submit_calm : IsCalm (edited c (name.Record txn.id) (edit.InsertRecord (preparing_record txn)))
-  submit_calm =
-      let e = edit.InsertRecord (preparing_record txn) in
-      record {
-        sound = submit_quietly.step.sound;
-        plain = plain_record c txn.id e calm.plain;
-        rests = rest_same submit_quietly.step.later.back (record_edit_queues c txn.id e) calm.rests;
-      }
-
-  pub submit_hits : record_at c txn.id ≡ None → is_some (hit (edit.InsertRecord (preparing_record txn)) (name.Record txn.id) (get c (name.Record txn.id))) ≡ true
-  submit_hits fresh = insert_must c txn.id (preparing_record txn) (nobody c calm.sound txn.id fresh) refl
-
-  pub submit_stands : record_at c txn.id ≡ None → IsSubmitted (edited c (name.Record txn.id) (edit.InsertRecord (preparing_record txn))) txn
-  submit_stands fresh = (insert_hit c txn.id (preparing_record txn) (submit_hits fresh)).now
-
--- the edit was made, or the store was left as it was
-pub made_or_left : {T E : Type 0} (r : Result T E) (x d y : Content) → OnOk r (x ≡ d) → OnErr r (x ≡ y) → (x ≡ d) ⊎ (x ≡ y)
-made_or_left (Ok t) x d y made left = inl made
-made_or_left (Err e) x d y made left = inr left
-
-pub made_stands : {E : Type 0} (r : Result Bool E) (txn : Waiting) (x d : Content) (hits : Bool) → IfOk r (λ t. t ≡ hits) → hits ≡ true → OnOk r (x ≡ d) → IsSubmitted d txn → IfOk r (λ t. (t ≡ true) × IsSubmitted x txn)
-made_stands (Err e) txn x d hits told hit made stands = tt
-made_stands (Ok t) txn x d hits told hit made stands = (told ∙ hit, subst (λ (c : Content). IsSubmitted c txn) (sym made) stands)
 
 module _ {S : Type 0} (content : S → Content) (place : S → ℕ → Content) (calls : S → ℕ) where
   pub submitting_begins : (s : S) (waiting : List Waiting) → MayRun (content s) waiting → IsSubmitting content place calls s s waiting waiting

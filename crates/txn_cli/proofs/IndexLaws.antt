@@ -7,7 +7,7 @@ use Rattle.std.specs.Str.{bytes_eq}
 use Rattle.std.proofs.lemmas.List.Folds.{list_any-append}
 use Rattle.std.proofs.lemmas.Map.Text.{is_eq-slice_cmp}
 use Rattle.txn_cli.specs.Index.{IsIndex}
-use Rattle.txn_cli.specs.declared.waiting.Waiting.{Waiting}
+use Rattle.txn_runner.specs.declared.waiting.Waiting.{Waiting}
 
 either : (found there : Bool) → (there || (found || false)) ≡ cond found true there
 either true true = refl

@@ -2,10 +2,6 @@ pub mod IndexLaws
 pub mod Showing
 pub mod Opening
 pub mod Playing
-pub mod Running
-pub mod Works
-pub mod Beside
-pub mod Stages
 pub mod Runs
 pub mod Batches
 pub mod OnlyReading

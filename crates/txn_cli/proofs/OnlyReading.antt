@@ -3,7 +3,7 @@ use Rattle.std.proofs.Common.{◌≡◌, ℕ, Bool, ◌+◌, ◌≤◌, List, Is
 use Rattle.store_trait.specs.Calls.{CallsGoOn, GoesOn, OneCall}
 use Rattle.store_trait.specs.Contents.{Content}
 use Rattle.store_trait.specs.Soundness.{IsSound}
-use Rattle.txn_cli.specs.Running.{OnlyReads}
+use Rattle.txn_runner.specs.Running.{OnlyReads}
 use Rattle.txn_cli.specs.Runs.{RunsGoOn}
 use Rattle.txn_cli.specs.declared.done.Run.{Run}
 use Rattle.txn_cli.proofs.Runs.{runs_same, runs_read}

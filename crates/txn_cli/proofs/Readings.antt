@@ -3,14 +3,15 @@ use Rattle.std.proofs.Common.{◌≡◌, ◌≢◌, ℕ, ◌+◌, Bool, List, []
 use Rattle.std.specs.FinMap.{empty}
 use Rattle.std.proofs.lemmas.List.{append-nil, append_assoc}
 use Rattle.store_trait.specs.Contents.{Content}
-use Rattle.txn_cli.specs.Batches.{IsCalm, MayRun}
+use Rattle.txn_runner.specs.Calm.{IsCalm}
+use Rattle.txn_cli.specs.Batches.{MayRun}
 use Rattle.txn_io.specs.Lines.{first_line, after_line, line_cost}
 use Rattle.txn_cli.specs.Play.{Progress, opening, Plays, IsRefused, RefusedAs}
-use Rattle.txn_cli.specs.Statements.{line_in}
+use Rattle.txn_script.specs.Statements.{line_in}
 use Rattle.txn_cli.specs.Texts.{fault_text}
-use Rattle.txn_cli.specs.declared.statement.ScriptFault.{ScriptFault}
-use Rattle.txn_cli.specs.declared.statement.Statement.{Statement}
-use Rattle.txn_cli.specs.declared.statement.Statement.TheVariants as statement
+use Rattle.txn_script.specs.declared.statement.ScriptFault.{ScriptFault}
+use Rattle.txn_script.specs.declared.statement.Statement.{Statement}
+use Rattle.txn_script.specs.declared.statement.Statement.TheVariants as statement
 use Rattle.txn_cli.specs.Reading.{HasCome, HasDoneLine, HasRunRest, HasPlayed, HasStopped, HasRefused}
 use Rattle.txn_cli.specs.Runs.{GrowsByOne, RunsGoOn}
 use Rattle.txn_cli.specs.Sessions.{IsHeld, at}

@@ -7,10 +7,10 @@ use Rattle.store_trait.specs.Meaning.{meaning}
 use Rattle.store_trait.specs.Soundness.{IsSound}
 use Rattle.store_laws.proofs.TrailFaithful.{trail_faithful, means_at}
 use Rattle.store_laws.proofs.TrailLegal.{trail_legal}
-use Rattle.txn_cli.specs.Running.{HasRun}
+use Rattle.txn_runner.specs.Running.{HasRun}
 use Rattle.txn_cli.specs.Runs.{RunsGoOn, AreFaithful, end_of}
 use Rattle.txn_cli.specs.declared.done.Run.{Run}
-use Rattle.txn_cli.proofs.Running.{run_same, run_reads}
+use Rattle.txn_runner.proofs.Running.{run_same, run_reads}
 
 -- what the store means at the end of a run
 pub run_means : (place : ℕ → Content) (mark n : ℕ) (base : Docs) (order : List Entry) → HasRun place mark n base order → meaning (place n) ≡ after base order

@@ -27,14 +27,15 @@ use Rattle.store_laws.proofs.Placing.{place_means}
 use Rattle.store_laws.proofs.Empty.{empty_sound, empty_rests}
 use Rattle.store_laws.proofs.PlainEdits.{plain_empty, plain_place}
 use Rattle.store_laws.proofs.Records.{same_id-equal}
-use Rattle.txn_cli.specs.Batches.{waits, are_distinct, Every, MayBegin, MayRun, IsCalm}
-use Rattle.txn_cli.specs.Running.{OnlyReads}
+use Rattle.txn_cli.specs.Batches.{waits, are_distinct, Every, MayBegin, MayRun}
+use Rattle.txn_runner.specs.Calm.{IsCalm}
+use Rattle.txn_runner.specs.Running.{OnlyReads}
 use Rattle.txn_cli.specs.Runs.{RunsGoOn}
 use Rattle.txn_cli.specs.Sessions.{IsHeld}
-use Rattle.txn_cli.specs.Store.{has_document, has_record}
+use Rattle.txn_runner.specs.Store.{has_document, has_record}
 use Rattle.txn_cli.specs.declared.done.Run.{Run}
 use Rattle.txn_cli.specs.declared.session.Session.{Session}
-use Rattle.txn_cli.specs.declared.waiting.Waiting.{Waiting}
+use Rattle.txn_runner.specs.declared.waiting.Waiting.{Waiting}
 use Rattle.txn_cli.proofs.OnlyReading.{runs_only_read}
 
 pub opens_calm : IsCalm empty

@@ -8,7 +8,7 @@ use Rattle.txn_cli.specs.Play.{Does, RunsWaiting}
 use Rattle.txn_cli.specs.Sessions.{at}
 use Rattle.txn_cli.specs.Texts.{documents_text}
 use Rattle.txn_cli.specs.declared.session.Session.{Session}
-use Rattle.txn_cli.specs.declared.statement.Statement.TheVariants as statement
+use Rattle.txn_script.specs.declared.statement.Statement.TheVariants as statement
 
 module _ {S : Type 0} (content : S → Content) where
   -- the documents are shown as the store means them, once the waiting batch has run

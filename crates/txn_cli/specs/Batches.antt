@@ -15,11 +15,11 @@ use Rattle.store_trait.specs.View.{look, record_at}
 use Rattle.store_laws.specs.Alone.{IsAtRest}
 use Rattle.store_laws.specs.Plain.{IsPlain}
 use Rattle.store_laws.specs.Trail.{IsRecorded}
-use Rattle.txn_cli.specs.Running.{RunGoesOn}
-use Rattle.txn_cli.specs.Settling.{IsSettled, IsSubmitted, HasDocuments}
-use Rattle.txn_cli.specs.Store.{has_document}
+use Rattle.txn_runner.specs.Running.{RunGoesOn}
+use Rattle.txn_runner.specs.Settling.{IsSettled, IsSubmitted, HasDocuments}
+use Rattle.txn_runner.specs.Store.{has_document}
 use Rattle.txn_cli.specs.Texts.{state_line}
-use Rattle.txn_cli.specs.declared.waiting.Waiting.{Waiting}
+use Rattle.txn_runner.specs.declared.waiting.Waiting.{Waiting}
 
 abbrev pub waits : List Waiting → TxnId → Bool
 waits waiting id = list_any (λ other. same_id other.id id) waiting
@@ -40,12 +40,6 @@ Every P (txn ∷ waiting) = P txn × Every P waiting
 pub record MayBegin (c : Content) (txn : Waiting) : Type 0 where
   pub fresh : record_at c txn.id ≡ None
   pub docs : HasDocuments c txn
-
--- Sound content of documents alone, in whose queues nobody has anything left to do.
-pub record IsCalm (c : Content) : Type 0 where
-  pub sound : IsSound c
-  pub plain : IsPlain c
-  pub rests : IsAtRest (look c)
 
 -- between two statements: calm content, and a batch that may begin
 pub record MayRun (c : Content) (waiting : List Waiting) : Type 0 where

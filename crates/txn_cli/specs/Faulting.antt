@@ -3,14 +3,10 @@ use Rattle.txn_io.specs.declared.lines.LineFault.{LineFault}
 use Rattle.txn_io.specs.declared.lines.LineFault.TheVariants as line_fault
 use Rattle.store_trait.specs.declared.store.StoreError.{StoreError}
 use Rattle.store_trait.specs.declared.store.StoreError.TheVariants as store_error
-use Rattle.txn_cli.specs.declared.fault.StepError.{StepError}
-use Rattle.txn_cli.specs.declared.fault.StepError.TheVariants as step
+use Rattle.txn_runner.specs.declared.error.StepError.{StepError}
+use Rattle.txn_runner.specs.declared.error.StepError.TheVariants as step
 use Rattle.txn_cli.specs.declared.fault.Fault.{Fault}
 use Rattle.txn_cli.specs.declared.fault.Fault.TheVariants as fault
-
-abbrev pub step_error_of : StoreError → StepError
-step_error_of store_error.Failed = step.StoreFault
-step_error_of store_error.OutOfMemory = step.OutOfMemory
 
 abbrev pub fault_of_store : StoreError → Fault
 fault_of_store store_error.Failed = fault.Store

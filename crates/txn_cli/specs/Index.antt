@@ -3,7 +3,7 @@ use Rattle.std.specs.Cmp.Lexicographic.{slice_cmp}
 use Rattle.std.specs.List.{list_any}
 use Rattle.std.specs.Ordering.{nat_cmp, is_eq}
 use Rattle.std.specs.Str.{bytes_eq}
-use Rattle.txn_cli.specs.declared.waiting.Waiting.{Waiting}
+use Rattle.txn_runner.specs.declared.waiting.Waiting.{Waiting}
 
 -- the ids are those of the transactions, in whatever order
 pub record IsIndex (ids : List (List ℕ)) (waiting : List Waiting) : Type 0 where

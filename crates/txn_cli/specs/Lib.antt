@@ -1,17 +1,11 @@
 pub mod Faulting
 pub mod Listing
 pub mod Play
-pub mod Stages
-pub mod Statements
 pub mod Texts
 pub mod Index
 pub mod Refusals
 pub mod Outcomes
 pub mod Reading
-pub mod Running
-pub mod Settling
-pub mod Store
-pub mod Causes
 pub mod Batches
 pub mod Runs
 pub mod Sessions

@@ -3,8 +3,6 @@ use Rattle.std.specs.List.{list_any}
 use Rattle.txn_record.specs.declared.entry.Entry.{Entry}
 use Rattle.txn_record.specs.declared.entry.Outcome.{Outcome}
 use Rattle.txn_record.specs.declared.entry.Outcome.TheVariants as outcome
-use Rattle.txn_record.specs.declared.state.State.{State}
-use Rattle.txn_record.specs.declared.state.State.TheVariants as state
 use Rattle.txn_cli.specs.declared.done.Run.{Run}
 
 abbrev pub is_aborted_outcome : Outcome → Bool
@@ -17,8 +15,3 @@ is_aborted entry = is_aborted_outcome entry.outcome
 -- some transaction of the batch was aborted
 abbrev pub has_aborted : Run → Bool
 has_aborted run = list_any is_aborted run.order
-
--- the state that a record comes to its end in
-abbrev pub settled_state : Outcome → State
-settled_state outcome.Applied = state.Applied
-settled_state outcome.Aborted = state.Aborted

@@ -16,15 +16,15 @@ use Rattle.txn_io.specs.Lines.{first_line, after_line, line_cost, reading}
 use Rattle.txn_io.specs.declared.lines.LineFault.TheVariants as line_fault
 use Rattle.txn_cli.specs.declared.fault.Fault.{Fault}
 use Rattle.txn_cli.specs.declared.fault.Fault.TheVariants as fault
-use Rattle.txn_cli.specs.Statements.{line_in}
+use Rattle.txn_script.specs.Statements.{line_in}
 use Rattle.txn_cli.specs.Batches.{waits, Every, StandsIn, batch_text}
-use Rattle.txn_cli.specs.Store.{has_document, has_record}
+use Rattle.txn_runner.specs.Store.{has_document, has_record}
 use Rattle.txn_cli.specs.Texts.{documents_text}
 use Rattle.txn_cli.specs.declared.done.Run.{Run}
-use Rattle.txn_cli.specs.declared.statement.Statement.{Statement}
-use Rattle.txn_cli.specs.declared.statement.Statement.TheVariants as statement
-use Rattle.txn_cli.specs.declared.statement.ScriptFault.{ScriptFault}
-use Rattle.txn_cli.specs.declared.waiting.Waiting.{Waiting}
+use Rattle.txn_script.specs.declared.statement.Statement.{Statement}
+use Rattle.txn_script.specs.declared.statement.Statement.TheVariants as statement
+use Rattle.txn_script.specs.declared.statement.ScriptFault.{ScriptFault}
+use Rattle.txn_runner.specs.declared.waiting.Waiting.{Waiting}
 
 -- How far a script has come: what the store holds, the transactions that wait, whether a statement
 -- other than `doc` stood already, the Runs, and what was printed.

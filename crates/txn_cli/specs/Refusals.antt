@@ -4,9 +4,9 @@ use Rattle.txn_cli.specs.declared.fault.Fault.TheVariants as fault
 use Rattle.store_trait.specs.Contents.{Content}
 use Rattle.store_trait.specs.Edits.{nonce_limit}
 use Rattle.store_trait.specs.View.{counter}
-use Rattle.txn_cli.specs.Settling.{IsRevnoSpent}
-use Rattle.txn_cli.specs.declared.fault.StepError.{StepError}
-use Rattle.txn_cli.specs.declared.fault.StepError.TheVariants as step
+use Rattle.txn_runner.specs.Settling.{IsRevnoSpent}
+use Rattle.txn_runner.specs.declared.error.StepError.{StepError}
+use Rattle.txn_runner.specs.declared.error.StepError.TheVariants as step
 
 -- a line of the script was refused
 abbrev pub IsOfLine : Fault → Type 0

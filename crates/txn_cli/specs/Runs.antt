@@ -3,7 +3,7 @@ use Rattle.std.specs.Prelude.{◌≡◌, ◌+◌, ◌⊎◌, true, ℕ, List, []
 use Rattle.txn_record.specs.Documents.{after, legal}
 use Rattle.store_trait.specs.Contents.{Content}
 use Rattle.store_trait.specs.History.{IsFaithful}
-use Rattle.txn_cli.specs.Running.{HasRun}
+use Rattle.txn_runner.specs.Running.{HasRun}
 use Rattle.txn_cli.specs.declared.done.Run.{Run}
 
 -- a Run lasts up to the mark of the next one, or up to the last call

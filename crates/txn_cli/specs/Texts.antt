@@ -15,8 +15,8 @@ use Rattle.txn_record.specs.declared.state.State.{State}
 use Rattle.txn_record.specs.declared.state.State.TheVariants as state
 use Rattle.txn_cli.specs.declared.fault.Fault.{Fault}
 use Rattle.txn_cli.specs.declared.fault.Fault.TheVariants as fault
-use Rattle.txn_cli.specs.declared.fault.StepError.{StepError}
-use Rattle.txn_cli.specs.declared.fault.StepError.TheVariants as step
+use Rattle.txn_runner.specs.declared.error.StepError.{StepError}
+use Rattle.txn_runner.specs.declared.error.StepError.TheVariants as step
 
 abbrev pub line : List ℕ → List ℕ
 line text = text ++ 10 ∷ []

@@ -4,12 +4,12 @@ ghost use Rattle.std.specs.Prelude.{◌≡◌, ◌==◌, [], ◌∷◌, ◌++◌
 ghost use Rattle.txn_cli.specs.Batches.{waits};
 ghost use Rattle.txn_cli.specs.Play.{most_waiting};
 
-use crate::waiting::Waiting;
 use doc_value::OutOfMemory;
 use std::alloc::Global;
 use std::collections::BTreeSet;
 use std::marker::Model;
 use txn_record::{Ops, TxnId};
+use txn_runner::Waiting;
 
 /// The most transactions that may wait.
 const MOST_WAITING: usize = 10_000;
@@ -26,8 +26,8 @@ impl Model for Batch {
     ghost use Rattle.std.specs.Prelude.{◌≡◌, List, ℕ};
     ghost use Rattle.std.specs.Coded.{coded_list};
     ghost use Rattle.std.specs.BTreeSet.{keys};
-    ghost use Rattle.txn_cli.specs.declared.waiting.Waiting.{Waiting};
-    ghost use Rattle.txn_cli.specs.contracts.waiting.Waiting as waiting;
+    ghost use Rattle.txn_runner.specs.declared.waiting.Waiting.{Waiting};
+    ghost use Rattle.txn_runner.specs.contracts.waiting.Waiting as waiting;
     ghost use Rattle.txn_cli.specs.Index.{IsIndex};
 
     ghost Value = { List Waiting };

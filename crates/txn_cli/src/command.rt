@@ -19,11 +19,11 @@ use crate::done::{Done, Run};
 use crate::fault::{Fault, refused};
 use crate::print::last_line;
 use crate::session::Session;
-use crate::statement::{ScriptFault, read_line};
 use std::alloc::Global;
 use store_trait::{Store, StoreError};
 use txn_io::{LineFault, Lines, Sink, Source, pour};
 use txn_record::{Entry, Outcome};
+use txn_script::{ScriptFault, read_line};
 
 /// Plays the script of the input, where the words are the single word `run`.
 ///

@@ -8,18 +8,19 @@ ghost use Rattle.store_trait.specs.Contents.{Content};
 ghost use Rattle.store_trait.specs.Meaning.{bodies};
 ghost use Rattle.store_laws.specs.Plain.{IsPlain};
 ghost use Rattle.txn_cli.specs.Listing.{StandsPast, IsNext, next_as};
-ghost use Rattle.txn_cli.specs.Causes.{IsOfStore};
+ghost use Rattle.txn_runner.specs.Causes.{IsOfStore};
 ghost use Rattle.txn_cli.specs.Refusals.{HasReason, IsOfRun};
-ghost use Rattle.txn_cli.specs.Running.{OnlyReads};
+ghost use Rattle.txn_runner.specs.Running.{OnlyReads};
 ghost use Rattle.txn_cli.specs.Texts.{document_line, documents_text};
 
-use crate::fault::{Fault, StepError, fault_of};
+use crate::fault::{Fault, fault_of};
 use crate::print::push_document;
 use doc_value::OutOfMemory;
 use std::alloc::Global;
 use store_laws::bodies_as_they_lie;
 use store_trait::{Cell, Name, Named, Store, StoreError};
 use txn_record::{Doc, Docs, TxnId, documents_rise};
+use txn_runner::StepError;
 
 /// Prints the documents of the store, in the order of their keys.
 pub fn push_documents<S: Store>(

@@ -2,7 +2,8 @@
 
 ghost use Rattle.std.specs.Prelude.{List, IsTrue, IfOk, IfErr, OnOk, IsErrOf};
 ghost use Rattle.store_trait.specs.Calls.{CallsGoOn, Rose};
-ghost use Rattle.txn_cli.specs.Batches.{MayRun, IsCalm, IsBegun, IsDoneWith, WorksOnBatch};
+ghost use Rattle.txn_runner.specs.Calm.{IsCalm};
+ghost use Rattle.txn_cli.specs.Batches.{MayRun, IsBegun, IsDoneWith, WorksOnBatch};
 ghost use Rattle.txn_cli.specs.Play.{HasRunBatch};
 ghost use Rattle.txn_cli.specs.Refusals.{IsOfRun, HasReason};
 ghost use Rattle.txn_cli.specs.Runs.{GrowsByOne, RunsGoOn};
@@ -12,13 +13,11 @@ use crate::documents::list_documents;
 use crate::done::Run;
 use crate::fault::{Fault, fault_of};
 use crate::print::push_outcome;
-use crate::settle::settle;
-use crate::steps::submit;
-use crate::waiting::Waiting;
 use sqlite_items::Items;
 use std::alloc::Global;
 use store_trait::Store;
 use txn_record::Entry;
+use txn_runner::{Waiting, settle, submit};
 
 /// Runs a batch: its records are submitted, and then each transaction is settled in turn. Answers
 /// the lines of the outcomes. The Run is kept, also where the batch isn't run to its end.

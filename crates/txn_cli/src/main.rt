@@ -6,7 +6,6 @@
 #![tactic(auto)]
 
 mod batch;
-mod calls;
 mod command;
 mod documents;
 mod done;
@@ -15,11 +14,6 @@ mod go;
 mod places;
 mod print;
 mod session;
-mod settle;
-mod stage;
-mod statement;
-mod steps;
-mod waiting;
 
 use command::command;
 use std::env;

@@ -7,9 +7,9 @@ ghost use Rattle.std.specs.List.{list_all};
 ghost use Rattle.store_trait.specs.Calls.{CallsGoOn, Rose};
 ghost use Rattle.store_trait.specs.declared.name.Name.TheVariants.{Doc};
 ghost use Rattle.txn_cli.specs.Play.{placed_doc};
-ghost use Rattle.txn_cli.specs.Batches.{IsCalm};
-ghost use Rattle.txn_cli.specs.Running.{OnlyReads};
-ghost use Rattle.txn_cli.specs.Store.{has_document, has_record};
+ghost use Rattle.txn_runner.specs.Calm.{IsCalm};
+ghost use Rattle.txn_runner.specs.Running.{OnlyReads};
+ghost use Rattle.txn_runner.specs.Store.{has_document, has_record};
 
 use crate::fault::Fault;
 use doc_value::Value;

@@ -1,13 +1,14 @@
 //! The lines that the program prints.
 
 ghost use Rattle.std.specs.Prelude.{◌≡◌, ◌++◌, OnOk, IfOk};
-ghost use Rattle.txn_cli.specs.Outcomes.{settled_state};
+ghost use Rattle.txn_runner.specs.Settling.{settled_state};
 ghost use Rattle.txn_cli.specs.Texts.{document_line, id_json, state_line, state_word, fault_text, step_text};
 
-use crate::fault::{Fault, StepError};
+use crate::fault::Fault;
 use doc_value::{DocId, OutOfMemory, Value, push_text, push_value};
 use std::alloc::Global;
 use txn_record::{Doc, Key, Outcome, Token, TxnId};
+use txn_runner::StepError;
 
 /// A document's line: its collection and id as JSON, and its body, with blanks between.
 pub fn push_document(out: &mut Vec<u8>, doc: &Doc) -> Result<(), OutOfMemory>

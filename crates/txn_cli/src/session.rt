@@ -7,7 +7,7 @@ ghost use Rattle.txn_cli.specs.Play.{is_allowed, Does, RunsBatch, RunsWaiting};
 ghost use Rattle.txn_cli.specs.Refusals.{HasReason, IsOfLine, IsOfRun, IsOfWork, not_built};
 ghost use Rattle.txn_cli.specs.Runs.{GrowsByOne, RunsGoOn};
 ghost use Rattle.txn_cli.specs.Sessions.{IsHeld, at};
-ghost use Rattle.txn_cli.specs.declared.statement.Statement.TheVariants as statement;
+ghost use Rattle.txn_script.specs.declared.statement.Statement.TheVariants as statement;
 
 use crate::batch::Batch;
 use crate::documents::push_documents;
@@ -15,11 +15,11 @@ use crate::done::Run;
 use crate::fault::{Fault, refused};
 use crate::go::run_batch;
 use crate::places::{may_wait, place_document};
-use crate::statement::Statement;
 use doc_value::Value;
 use std::alloc::Global;
 use store_trait::Store;
 use txn_record::{Key, Ops, TxnId};
+use txn_script::Statement;
 
 /// How far a script has come. `was_empty` says whether the store had no cell as the call began.
 pub struct Session<S> {

@@ -1,7 +1,8 @@
 use Rattle.std.proofs.Common.{inl, ap, [], refl, sym, ◌∙◌, arith}
 use Rattle.txn_cli.specs.Play.{Progress}
 use Rattle.std.proofs.lemmas.Result.{err_from_is_err_and}
-use Rattle.txn_cli.proofs.Playing.{line_read, refuses_line, on_ok, unread, calls_then}
+use Rattle.txn_runner.proofs.CallsMade.{calls_then}
+use Rattle.txn_cli.proofs.Playing.{line_read, refuses_line, on_ok, unread}
 use Rattle.txn_cli.proofs.Readings.{begins_held, begins_come, begins_stopped, refused_alike, stops, stops_at_end, plays_out, comes_further}
 use Rattle.txn_cli.proofs.command.play.Goals as goal
 

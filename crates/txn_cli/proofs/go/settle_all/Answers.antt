@@ -1,8 +1,8 @@
 use Rattle.std.proofs.Common.{subst, List, rules}
 use Rattle.txn_cli.specs.Batches.{IsSettling}
-use Rattle.txn_cli.specs.declared.waiting.Waiting.{Waiting}
+use Rattle.txn_runner.specs.declared.waiting.Waiting.{Waiting}
 use Rattle.txn_cli.proofs.Batches.{at_item, none_left, settling_begins, settling_next, settling_ends, begins_worth, batch_works}
-use Rattle.txn_cli.proofs.Playing.{calls_then}
+use Rattle.txn_runner.proofs.CallsMade.{calls_then}
 use Rattle.txn_cli.proofs.go.settle_all.Goals as goal
 
 pub loop-txn-init : goal.loop-txn-init

@@ -1,8 +1,8 @@
 use Rattle.std.proofs.Common.{subst, List, rules}
 use Rattle.txn_cli.specs.Batches.{IsSubmitting}
-use Rattle.txn_cli.specs.declared.waiting.Waiting.{Waiting}
+use Rattle.txn_runner.specs.declared.waiting.Waiting.{Waiting}
 use Rattle.txn_cli.proofs.Batches.{at_item, none_left, submitting_begins, submitting_next, submitting_ends, batch_works}
-use Rattle.txn_cli.proofs.Playing.{call_after}
+use Rattle.txn_runner.proofs.CallsMade.{call_after}
 use Rattle.txn_cli.proofs.go.submit_all.Goals as goal
 
 pub loop-txn-init : goal.loop-txn-init

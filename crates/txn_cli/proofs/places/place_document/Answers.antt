@@ -1,5 +1,5 @@
 use Rattle.std.proofs.Common.{Err, ap, sym, subst}
-use Rattle.txn_cli.specs.Batches.{IsCalm}
+use Rattle.txn_runner.specs.Calm.{IsCalm}
 use Rattle.txn_cli.proofs.Sessions.{place_calm}
 use Rattle.txn_cli.proofs.places.place_document.Goals as goal
 

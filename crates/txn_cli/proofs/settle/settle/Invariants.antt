@@ -1,8 +1,0 @@
-use Rattle.txn_cli.specs.Stages.{IsSettlingOne, steps_left}
-use Rattle.txn_cli.proofs.settle.settle.Given as goal
-
-abbrev pub invariant-loop-stage : goal.invariant-loop-stage
-invariant-loop-stage g l = IsSettlingOne g.S.Store.tells g.S.Store.content g.S.Store.place g.S.Store.calls g.S.Store.faults l.fn.store l.store l.fn.order.items l.order.items l.txn l.stage
-
-abbrev pub decreases-loop-stage : goal.decreases-loop-stage
-decreases-loop-stage g l = steps_left l.stage

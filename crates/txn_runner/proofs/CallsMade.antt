@@ -1,0 +1,38 @@
+-- Calls on a store, one after another.
+use Rattle.std.proofs.Common.{◌≡◌, ℕ, ◌≤◌, Result, Ok, Err, Bool, ⊎_elim, inl, inr, ◌∙◌, arith}
+use Rattle.store_trait.specs.Calls.{CallsGoOn, OneCall, Rose}
+use Rattle.store_trait.specs.Contents.{Content}
+
+-- calls on a store, and then more
+pub calls_then : {S : Type 0} (tells : Bool) (content : S → Content) (place : S → ℕ → Content) (calls faults : S → ℕ) (a b c : S)
+    → CallsGoOn tells content place calls faults a b → CallsGoOn tells content place calls faults b c
+    → CallsGoOn tells content place calls faults a c
+calls_then tells content place calls faults a b c first second = record {
+  trail = λ told. record {
+    before = λ n le. (second.trail told).before n (omega (arith, first.counted)) ∙ (first.trail told).before n le;
+    here = (second.trail told).here;
+  };
+  counted = omega (arith, first.counted, second.counted);
+  later = omega (arith, first.later, second.later);
+}
+
+-- calls on a store, and one more, whatever it answers
+pub call_after : {S T E : Type 0} (tells : Bool) (content : S → Content) (place : S → ℕ → Content) (calls faults : S → ℕ) (a b c : S) (result : Result T E) (failed : E)
+    → CallsGoOn tells content place calls faults a b → OneCall tells content place calls faults b c result failed
+    → CallsGoOn tells content place calls faults a c
+call_after {S} {T} {E} tells content place calls faults a b c result failed first one = record {
+  trail = λ told. record {
+    before = λ n le. (one.trail told).before n (omega (arith, first.counted)) ∙ (first.trail told).before n le;
+    here = (one.trail told).here;
+  };
+  counted = by result one;
+  later = omega (arith, first.later, one.later);
+}
+  where
+    by : (r : Result T E) → OneCall tells content place calls faults b c r failed → calls a ≤ calls c
+    by (Ok x) o = omega (arith, first.counted, o.counted)
+    by (Err e) o = ⊎_elim (λ more. omega (arith, first.counted, more)) (λ same. omega (arith, first.counted, same)) o.counted_err
+
+-- a count that rose since then rose since before
+pub rose_before : {a b n : ℕ} → a ≤ b → Rose b n → Rose a n
+rose_before le rose = ⊎_elim (λ less. inl (omega (arith, le, less))) (λ last. inr last) rose

@@ -1,0 +1,6 @@
+pub mod Running
+pub mod Works
+pub mod Beside
+pub mod Stages
+pub mod Submitting
+pub mod CallsMade

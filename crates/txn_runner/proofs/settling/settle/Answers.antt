@@ -1,0 +1,23 @@
+use Rattle.std.proofs.Common.{Err, ap}
+use Rattle.std.proofs.lemmas.Result.{err_from_is_err_and}
+use Rattle.txn_runner.proofs.Works.{works_then, same_error}
+use Rattle.txn_runner.proofs.CallsMade.{call_after, rose_before}
+use Rattle.txn_runner.proofs.settling.settle.Goals as goal
+
+pub returns-in_err-stage : goal.returns-in_err-stage
+returns-in_err-stage g c =
+    let p = err_from_is_err_and c.from_residual.result c.from_residual.ensures.1 in
+    rw (p.1, p.2) (record {
+      works = λ told. works_then _ _ _ _ _ _ _ _ _ _ (c.loop-stage.invariant.works told) (c.advance.ensures.works told);
+      settled = λ told. tt;
+      cause = λ told. (c.in_err-stage.ensures.comes told).cause;
+      calls = call_after _ _ _ _ _ _ _ _ _ _ c.loop-stage.invariant.made c.advance.ensures.call;
+      fault = λ same. rose_before c.loop-stage.invariant.made.later (c.in_err-stage.ensures.call.fault (ap Err (same_error _ _ same)));
+    })
+
+pub loop-stage-preserved : goal.loop-stage-preserved
+loop-stage-preserved g c = record {
+  works = λ told. works_then _ _ _ _ _ _ _ _ _ _ (c.loop-stage.invariant.works told) (c.advance.ensures.works told);
+  worth = λ told. (c.in_ok-stage.ensures.comes told).worth;
+  made = call_after _ _ _ _ _ _ _ _ _ _ c.loop-stage.invariant.made c.advance.ensures.call;
+}

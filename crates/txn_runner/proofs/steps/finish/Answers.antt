@@ -1,0 +1,22 @@
+use Rattle.std.proofs.Common.{None}
+use Rattle.txn_record.specs.declared.state.State.TheVariants as state
+use Rattle.store_trait.specs.declared.edit.Edit.TheVariants as edit
+use Rattle.txn_runner.proofs.Beside.{record_others}
+use Rattle.txn_runner.proofs.Works.{works_edited, works_idly, comes_edited, comes_to_nothing}
+use Rattle.txn_runner.proofs.Stages.{finish_hits, finish_quietly, finish_worth}
+use Rattle.txn_runner.proofs.steps.finish.Goals as goal
+
+pub returns-in-Ok-clause-works : goal.returns-in-Ok-clause-works
+returns-in-Ok-clause-works g c = λ told order.
+    works_edited _ _ _ _ _ _ _ _ _ told (g.met.S.Store.present _ told) c.must_hit.ensures.call _ _ (c.in-Ok.ensures.made told) (finish_quietly _ _ (c.requires.worth told)) (record_others _ _ (edit.Move state.Applying state.Applied None None)) order
+
+pub returns-in-Ok-clause-comes : goal.returns-in-Ok-clause-comes
+returns-in-Ok-clause-comes g c = λ told.
+    comes_edited _ _ _ _ (c.in-Ok.ensures.made told) (finish_worth _ _ (c.requires.worth told))
+
+pub returns-in-Err-clause-works : goal.returns-in-Err-clause-works
+returns-in-Err-clause-works g c = λ told order.
+    works_idly _ _ _ _ _ _ _ _ _ told (g.met.S.Store.present _ told) c.must_hit.ensures.call _ order (c.requires.worth told).sound (c.in-Err.ensures.left told (finish_hits _ _ (c.requires.worth told)))
+
+pub returns-in-Err-clause-comes : goal.returns-in-Err-clause-comes
+returns-in-Err-clause-comes g c = λ told. comes_to_nothing _ _ _ (c.in-Err.ensures.never told (finish_hits _ _ (c.requires.worth told)))

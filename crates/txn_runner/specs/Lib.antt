@@ -1,0 +1,6 @@
+pub mod Stages
+pub mod Running
+pub mod Settling
+pub mod Store
+pub mod Causes
+pub mod Calm

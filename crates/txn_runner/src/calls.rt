@@ -1,0 +1,113 @@
+//! The calls on the store that a step makes, each one, with the refusals of a step.
+
+ghost use Rattle.std.specs.Prelude.{◌≡◌, IsTrue, true, Some, OnOk, OnErr, IfOk, IfErr, is_some};
+ghost use Rattle.std.specs.FinMap.{get};
+ghost use Rattle.store_trait.specs.Edits.{hit, edited};
+ghost use Rattle.store_trait.specs.Calls.{OneCall, Edits, Reads};
+ghost use Rattle.store_trait.specs.View.{doc_at};
+ghost use Rattle.txn_runner.specs.Causes.{IsMissed, IsOfStore};
+
+use crate::error::StepError;
+use std::alloc::Global;
+use store_trait::{Cell, DocCell, Edit, Edited, Name, Store, StoreError, doc_in};
+use txn_record::{Key, TxnId};
+
+/// An edit of the store.
+pub fn edit<S: Store>(
+    alloc: Global,
+    store: &mut S,
+    name: &Name,
+    change: &Edit,
+) -> Result<Edited, StepError>
+    ensures made { IsTrue S.tells → OnOk result (S.content store.new ≡ edited (S.content store.old) name.now change.now) }
+    ensures hit { IsTrue S.tells → IfOk result
+        (λ done. done.hit ≡ is_some (hit change.now name.now (get (S.content store.old) name.now))) }
+    ensures after { IsTrue S.tells → IfOk result (λ done. done.cell ≡ get (S.content store.new) name.now) }
+    ensures left { IsTrue S.tells → OnErr result (S.content store.new ≡ S.content store.old) }
+    ensures kind { IfErr result IsOfStore }
+    ensures answered { IfOk result (λ done. S.answered store.old (Edits name.now change.now done.hit done.cell) store.new) }
+    ensures call { OneCall S.tells S.content S.place S.calls S.faults store.old store.new result StepError.StoreFault }
+{
+    match store.edit(alloc, name, change) {
+        Ok(done) => Ok(done),
+        Err(StoreError::Failed) => Err(StepError::StoreFault),
+        Err(StoreError::OutOfMemory) => Err(StepError::OutOfMemory),
+    }
+}
+
+/// The cell under a name.
+pub fn read<S: Store>(alloc: Global, store: &mut S, name: &Name) -> Result<Option<Cell>, StepError>
+    ensures found { IsTrue S.tells → IfOk result (λ found. found ≡ get (S.content store.old) name.now) }
+    ensures same { IsTrue S.tells → S.content store.new ≡ S.content store.old }
+    ensures kind { IfErr result IsOfStore }
+    ensures answered { IfOk result (λ found. S.answered store.old (Reads name.now found) store.new) }
+    ensures call { OneCall S.tells S.content S.place S.calls S.faults store.old store.new result StepError.StoreFault }
+{
+    match store.read(alloc, name) {
+        Ok(found) => Ok(found),
+        Err(StoreError::Failed) => Err(StepError::StoreFault),
+        Err(StoreError::OutOfMemory) => Err(StepError::OutOfMemory),
+    }
+}
+
+/// An edit that a store which holds what it was told can't miss: at a miss the record of that id and
+/// the cell of that name disagree.
+pub fn must_hit<S: Store>(
+    alloc: Global,
+    store: &mut S,
+    id: TxnId,
+    name: Name,
+    change: Edit,
+) -> Result<(), StepError>
+    ensures made { IsTrue S.tells → OnOk result (S.content store.new ≡ edited (S.content store.old) name change) }
+    ensures left { IsTrue S.tells → is_some (hit change name (get (S.content store.old) name)) ≡ true →
+        OnErr result (S.content store.new ≡ S.content store.old) }
+    ensures never { IsTrue S.tells → is_some (hit change name (get (S.content store.old) name)) ≡ true → IfErr result IsOfStore }
+    ensures cause { IfErr result (IsMissed S.answered store.old id name change store.new) }
+    ensures call { OneCall S.tells S.content S.place S.calls S.faults store.old store.new result StepError.StoreFault }
+{
+    match edit(alloc, store, &name, &change) {
+        Ok(edited) if edited.hit => Ok(()),
+        Ok(_) => Err(StepError::Clash { id, at: name }),
+        Err(error) => Err(error),
+    }
+}
+
+/// An edit that may have been made before, so that a miss is no refusal; answers whether it hit.
+pub fn may_hit<S: Store>(
+    alloc: Global,
+    store: &mut S,
+    name: Name,
+    change: Edit,
+) -> Result<bool, StepError>
+    ensures made { IsTrue S.tells → OnOk result (S.content store.new ≡ edited (S.content store.old) name change) }
+    ensures hit { IsTrue S.tells → IfOk result
+        (λ hits. hits ≡ is_some (hit change name (get (S.content store.old) name))) }
+    ensures left { IsTrue S.tells → OnErr result (S.content store.new ≡ S.content store.old) }
+    ensures kind { IfErr result IsOfStore }
+    ensures call { OneCall S.tells S.content S.place S.calls S.faults store.old store.new result StepError.StoreFault }
+{
+    match edit(alloc, store, &name, &change) {
+        Ok(edited) => Ok(edited.hit),
+        Err(error) => Err(error),
+    }
+}
+
+/// The document of a key. Where it is missing, the record of that id and the document disagree.
+pub fn read_document<S: Store>(
+    alloc: Global,
+    store: &mut S,
+    id: TxnId,
+    key: &Key,
+) -> Result<DocCell, StepError>
+    ensures found { IsTrue S.tells → IfOk result (λ doc. doc_at (S.content store.old) key.now ≡ Some doc) }
+    ensures same { IsTrue S.tells → S.content store.new ≡ S.content store.old }
+    ensures never { IsTrue S.tells → is_some (doc_at (S.content store.old) key.now) ≡ true → IfErr result IsOfStore }
+    ensures call { OneCall S.tells S.content S.place S.calls S.faults store.old store.new result StepError.StoreFault }
+{
+    let name = Name::Doc(key.copy(alloc)?);
+    match read(alloc, store, &name) {
+        Ok(found) => doc_in(found).ok_or(StepError::Clash { id, at: name }),
+        Err(error) => Err(error),
+    }
+}

@@ -1,0 +1,71 @@
+//! How a runner settles one transaction after the other.
+
+ghost use Rattle.std.specs.Prelude.{◌≡◌, ◌<◌, IsTrue, IfOk, IfErr, IsErrOf};
+ghost use Rattle.store_trait.specs.Calls.{CallsGoOn, OneCall, Rose};
+ghost use Rattle.txn_runner.specs.Settling.{IsWorth, WorksOn, ComesToStage, MayStop};
+ghost use Rattle.txn_runner.specs.Stages.{steps_left};
+
+use crate::error::StepError;
+use crate::stage::Stage;
+use crate::steps;
+use crate::waiting::Waiting;
+use std::alloc::Global;
+use store_trait::Store;
+use txn_record::{Entry, Outcome};
+
+/// Settles a transaction whose record stands in the store, preparing. Its decision is added to the
+/// order as it is made, so that the order has it also where a later step is refused.
+pub fn settle<S: Store>(
+    alloc: Global,
+    store: &mut S,
+    order: &mut Vec<Entry>,
+    txn: &Waiting,
+) -> Result<Outcome, StepError>
+    requires worth { IsTrue S.tells → IsWorth (S.content store.old) txn.now Stage.Draw }
+    ensures works { IsTrue S.tells →
+        WorksOn S.content S.place S.calls store.old store.new order.old.items order.new.items txn.now.id }
+    ensures settled { IsTrue S.tells → IfOk result
+        (λ outcome. IsWorth (S.content store.new) txn.now (Stage.Settled outcome)) }
+    ensures cause { IsTrue S.tells → IfErr result (MayStop (S.content store.new)) }
+    ensures calls { CallsGoOn S.tells S.content S.place S.calls S.faults store.old store.new }
+    ensures fault { IsErrOf result StepError.StoreFault → Rose (S.faults store.old) (S.faults store.new) }
+{
+    let mut stage = Stage::Draw;
+    loop {
+        if let Stage::Settled(outcome) = stage {
+            return Ok(outcome);
+        }
+        stage = advance(alloc, store, order, txn, stage)?;
+    }
+}
+
+/// Makes the next call on the store, and answers what is left to do after it.
+fn advance<S: Store>(
+    alloc: Global,
+    store: &mut S,
+    order: &mut Vec<Entry>,
+    txn: &Waiting,
+    stage: Stage,
+) -> Result<Stage, StepError>
+    requires worth { IsTrue S.tells → IsWorth (S.content store.old) txn.now stage }
+    requires left { 0 < steps_left stage }
+    ensures works { IsTrue S.tells →
+        WorksOn S.content S.place S.calls store.old store.new order.old.items order.new.items txn.now.id }
+    ensures comes { IsTrue S.tells → ComesToStage (S.content store.new) txn.now result }
+    ensures nearer { IfOk result (λ next. steps_left next < steps_left stage) }
+    ensures call { OneCall S.tells S.content S.place S.calls S.faults store.old store.new result StepError.StoreFault }
+{
+    match stage {
+        Stage::Draw => steps::draw(alloc, store, txn),
+        Stage::Queue { nonce } => steps::queue(alloc, store, txn, nonce),
+        Stage::Prepare { nonce } => steps::prepare(alloc, store, txn, nonce),
+        Stage::Look { nonce } => steps::look(alloc, store, txn, nonce),
+        Stage::Decide { nonce, revno, fits } => {
+            steps::decide(alloc, store, order, txn, nonce, revno, fits)
+        }
+        Stage::Update { nonce, revno } => steps::update(alloc, store, txn, nonce, revno),
+        Stage::Finish => steps::finish(alloc, store, txn),
+        Stage::Abort => steps::abort(alloc, store, txn),
+        Stage::Settled(_) => unreachable!(),
+    }
+}

@@ -1,0 +1,376 @@
+//! The steps by which a transaction is settled, one stage after the other. Each makes one call on the
+//! store at most, and answers what is left to do after it.
+
+ghost use Rattle.std.specs.Prelude.{◌≡◌, ◌<◌, ℕ, List, [], ◌∷◌, true, false, None, IsTrue, IfOk, IfErr, OnOk};
+ghost use Rattle.store_trait.specs.Calls.{OneCall};
+ghost use Rattle.txn_record.specs.declared.entry.Entry.{Entry as LogEntry};
+ghost use Rattle.txn_record.specs.Revnos.{is_present};
+ghost use Rattle.store_trait.specs.View.{record_at};
+ghost use Rattle.txn_runner.specs.Calm.{IsCalm};
+ghost use Rattle.txn_runner.specs.Causes.{IsMissed, IsOfStore, drawn_of, IsUndrawn};
+ghost use Rattle.txn_runner.specs.Settling.{IsWorth, WorksOn, ComesToStage, IsSubmitted, preparing_record};
+ghost use Rattle.txn_runner.specs.Stages.{steps_left};
+
+use crate::calls::{edit, may_hit, must_hit, read_document};
+use crate::error::StepError;
+use crate::stage::Stage;
+use crate::waiting::Waiting;
+use doc_value::OutOfMemory;
+use sqlite_items::Items;
+use std::alloc::Global;
+use store_trait::{Edit, Name, Store, counter_in};
+use txn_record::{Change, Entry, Op, Outcome, Record, State, Token, TxnId, Update, fits};
+
+/// The greatest absolute value of a revision number at which a chain may begin.
+const LAST_REVNO: u64 = 4_611_686_018_427_386_903;
+
+/// The counter of nonces at which none is left.
+const LAST_COUNTER: u32 = u32::MAX;
+
+/// Puts the record of a transaction into the store, preparing; answers whether there was none.
+pub fn submit<S: Store>(alloc: Global, store: &mut S, txn: &Waiting) -> Result<bool, StepError>
+    requires calm { IsTrue S.tells → IsCalm (S.content store.old) }
+    requires fresh { IsTrue S.tells → record_at (S.content store.old) txn.now.id ≡ None }
+    ensures works { IsTrue S.tells → (order : List LogEntry) →
+        WorksOn S.content S.place S.calls store.old store.new order order txn.now.id }
+    ensures calm { IsTrue S.tells → IsCalm (S.content store.new) }
+    ensures stands { IsTrue S.tells → IfOk result
+        (λ hits. (hits ≡ true) × IsSubmitted (S.content store.new) txn.now) }
+    ensures kind { IfErr result IsOfStore }
+    ensures call { OneCall S.tells S.content S.place S.calls S.faults store.old store.new result StepError.StoreFault }
+{
+    let rec = preparing(alloc, txn)?;
+    let change = Edit::InsertRecord { rec };
+    may_hit(alloc, store, Name::Record(txn.id), change)
+}
+
+/// The record of a transaction as it is submitted.
+fn preparing(alloc: Global, txn: &Waiting) -> Result<Record, OutOfMemory>
+    ensures { IfOk result (λ rec. rec ≡ preparing_record txn.now) }
+{
+    let ops = txn.ops.copy(alloc)?;
+    Ok(Record {
+        id: txn.id,
+        state: State::Preparing,
+        info: None,
+        ops,
+        nonce: None,
+        revnos: None,
+    })
+}
+
+/// Draws the transaction's nonce.
+pub fn draw<S: Store>(alloc: Global, store: &mut S, txn: &Waiting) -> Result<Stage, StepError>
+    requires worth { IsTrue S.tells → IsWorth (S.content store.old) txn.now Stage.Draw }
+    ensures works { IsTrue S.tells → (order : List LogEntry) →
+        WorksOn S.content S.place S.calls store.old store.new order order txn.now.id }
+    ensures comes { IsTrue S.tells → ComesToStage (S.content store.new) txn.now result }
+    ensures nearer { IfOk result (λ next. steps_left next ≡ 6) }
+    ensures cause { IfErr result (IsUndrawn S.answered store.old txn.now.id store.new) }
+    ensures call { OneCall S.tells S.content S.place S.calls S.faults store.old store.new result StepError.StoreFault }
+{
+    let drawn = edit(alloc, store, &Name::Nonce, &Edit::DrawNonce)?;
+    let nonce = read_drawn(txn.id, drawn.hit, counter_in(drawn.cell))?;
+    Ok(Stage::Queue { nonce })
+}
+
+/// The nonce that was drawn, by the counter after the call.
+fn read_drawn(id: TxnId, hit: bool, counter: Option<u32>) -> Result<u32, StepError>
+    ensures { result ≡ drawn_of id hit counter }
+{
+    match counter {
+        Some(counter) if hit && counter > 0 => Ok(counter - 1),
+        Some(counter) if !hit && counter >= LAST_COUNTER => Err(StepError::NoncesSpent),
+        _ => Err(StepError::Clash {
+            id,
+            at: Name::Nonce,
+        }),
+    }
+}
+
+/// Puts the transaction's token at the end of its document's queue.
+pub fn queue<S: Store>(
+    alloc: Global,
+    store: &mut S,
+    txn: &Waiting,
+    nonce: u32,
+) -> Result<Stage, StepError>
+    requires worth { IsTrue S.tells → IsWorth (S.content store.old) txn.now (Stage.Queue nonce) }
+    ensures works { IsTrue S.tells → (order : List LogEntry) →
+        WorksOn S.content S.place S.calls store.old store.new order order txn.now.id }
+    ensures comes { IsTrue S.tells → ComesToStage (S.content store.new) txn.now result }
+    ensures nearer { IfOk result (λ next. steps_left next ≡ 5) }
+    ensures call { OneCall S.tells S.content S.place S.calls S.faults store.old store.new result StepError.StoreFault }
+{
+    let id = txn.id;
+    let name = Name::Doc(txn.ops.only().key.copy(alloc)?);
+    let token = Token { id, nonce };
+    match must_hit(alloc, store, id, name, Edit::AddToken { token }) {
+        Ok(()) => Ok(Stage::Prepare { nonce }),
+        Err(error) => Err(error),
+    }
+}
+
+/// Moves the transaction's record to prepared.
+pub fn prepare<S: Store>(
+    alloc: Global,
+    store: &mut S,
+    txn: &Waiting,
+    nonce: u32,
+) -> Result<Stage, StepError>
+    requires worth { IsTrue S.tells → IsWorth (S.content store.old) txn.now (Stage.Prepare nonce) }
+    ensures works { IsTrue S.tells → (order : List LogEntry) →
+        WorksOn S.content S.place S.calls store.old store.new order order txn.now.id }
+    ensures comes { IsTrue S.tells → ComesToStage (S.content store.new) txn.now result }
+    ensures nearer { IfOk result (λ next. steps_left next ≡ 4) }
+    ensures call { OneCall S.tells S.content S.place S.calls S.faults store.old store.new result StepError.StoreFault }
+{
+    let change = Edit::Move {
+        from: State::Preparing,
+        to: State::Prepared,
+        nonce: Some(nonce),
+        revnos: None,
+    };
+    match must_hit(alloc, store, txn.id, Name::Record(txn.id), change) {
+        Ok(()) => Ok(Stage::Look { nonce }),
+        Err(error) => Err(error),
+    }
+}
+
+/// Reads the transaction's document: its number, and whether the update fits there.
+pub fn look<S: Store>(
+    alloc: Global,
+    store: &mut S,
+    txn: &Waiting,
+    nonce: u32,
+) -> Result<Stage, StepError>
+    requires worth { IsTrue S.tells → IsWorth (S.content store.old) txn.now (Stage.Look nonce) }
+    ensures works { IsTrue S.tells → (order : List LogEntry) →
+        WorksOn S.content S.place S.calls store.old store.new order order txn.now.id }
+    ensures comes { IsTrue S.tells → ComesToStage (S.content store.new) txn.now result }
+    ensures nearer { IfOk result (λ next. steps_left next ≡ 3) }
+    ensures call { OneCall S.tells S.content S.place S.calls S.faults store.old store.new result StepError.StoreFault }
+{
+    let op = txn.ops.only();
+    let key = op.key.copy(alloc)?;
+    match read_document(alloc, store, txn.id, &op.key) {
+        Ok(doc) if doc.revno.unsigned_abs() > LAST_REVNO => Err(StepError::RevnoSpent { key }),
+        Ok(doc) => Ok(Stage::Decide {
+            nonce,
+            revno: doc.revno,
+            fits: fits(update_of(op), &doc.body),
+        }),
+        Err(error) => Err(error),
+    }
+}
+
+/// Decides the transaction: from this call on it has applied, or has aborted, as a whole. The
+/// decision is added to the order.
+pub fn decide<S: Store>(
+    alloc: Global,
+    store: &mut S,
+    order: &mut Vec<Entry>,
+    txn: &Waiting,
+    nonce: u32,
+    revno: i64,
+    fits: bool,
+) -> Result<Stage, StepError>
+    requires worth { IsTrue S.tells → IsWorth (S.content store.old) txn.now (Stage.Decide nonce revno fits) }
+    ensures works { IsTrue S.tells →
+        WorksOn S.content S.place S.calls store.old store.new order.old.items order.new.items txn.now.id }
+    ensures comes { IsTrue S.tells → ComesToStage (S.content store.new) txn.now result }
+    ensures nearer { IfOk result (λ next. steps_left next < 3) }
+    ensures call { OneCall S.tells S.content S.place S.calls S.faults store.old store.new result StepError.StoreFault }
+{
+    if fits {
+        apply(alloc, store, order, txn, nonce, revno)
+    } else {
+        give_up(alloc, store, order, txn, nonce, revno)
+    }
+}
+
+/// Its tests hold: its record starts to apply, with the number that its operation found.
+fn apply<S: Store>(
+    alloc: Global,
+    store: &mut S,
+    order: &mut Vec<Entry>,
+    txn: &Waiting,
+    nonce: u32,
+    revno: i64,
+) -> Result<Stage, StepError>
+    requires worth { IsTrue S.tells → IsWorth (S.content store.old) txn.now (Stage.Decide nonce revno true) }
+    ensures works { IsTrue S.tells →
+        WorksOn S.content S.place S.calls store.old store.new order.old.items order.new.items txn.now.id }
+    ensures comes { IsTrue S.tells → ComesToStage (S.content store.new) txn.now result }
+    ensures nearer { IfOk result (λ next. steps_left next < 3) }
+    ensures call { OneCall S.tells S.content S.place S.calls S.faults store.old store.new result StepError.StoreFault }
+{
+    let revnos = Items::from_slice(alloc, &[revno])?;
+    let mut entry = entry_of(alloc, txn, Outcome::Applied, &[revno])?;
+    order.reserve(1)?;
+    let change = Edit::Move {
+        from: State::Prepared,
+        to: State::Applying,
+        nonce: None,
+        revnos: Some(revnos),
+    };
+    match must_hit(alloc, store, txn.id, Name::Record(txn.id), change) {
+        Ok(()) => {
+            entry.at = store.calls();
+            match order.push(entry) {
+                Ok(()) => Ok(after_decision(nonce, revno)),
+                Err(_) => unreachable!(),
+            }
+        }
+        Err(error) => Err(error),
+    }
+}
+
+/// What is left to do for a transaction that applies: nothing, where it found no document.
+fn after_decision(nonce: u32, revno: i64) -> Stage
+    ensures nearer { steps_left result < 3 }
+    ensures missing { is_present revno ≡ false → result ≡ Stage.Finish }
+    ensures present { is_present revno ≡ true → result ≡ Stage.Update nonce revno }
+{
+    if revno < 0 {
+        Stage::Finish
+    } else {
+        Stage::Update { nonce, revno }
+    }
+}
+
+/// A test fails: its record is to be aborted.
+fn give_up<S: Store>(
+    alloc: Global,
+    store: &mut S,
+    order: &mut Vec<Entry>,
+    txn: &Waiting,
+    nonce: u32,
+    revno: i64,
+) -> Result<Stage, StepError>
+    requires worth { IsTrue S.tells → IsWorth (S.content store.old) txn.now (Stage.Decide nonce revno false) }
+    ensures works { IsTrue S.tells →
+        WorksOn S.content S.place S.calls store.old store.new order.old.items order.new.items txn.now.id }
+    ensures comes { IsTrue S.tells → ComesToStage (S.content store.new) txn.now result }
+    ensures nearer { IfOk result (λ next. steps_left next < 3) }
+    ensures call { OneCall S.tells S.content S.place S.calls S.faults store.old store.new result StepError.StoreFault }
+{
+    let mut entry = entry_of(alloc, txn, Outcome::Aborted, &[])?;
+    order.reserve(1)?;
+    let change = Edit::Move {
+        from: State::Prepared,
+        to: State::Aborting,
+        nonce: None,
+        revnos: None,
+    };
+    match must_hit(alloc, store, txn.id, Name::Record(txn.id), change) {
+        Ok(()) => {
+            entry.at = store.calls();
+            match order.push(entry) {
+                Ok(()) => Ok(Stage::Abort),
+                Err(_) => unreachable!(),
+            }
+        }
+        Err(error) => Err(error),
+    }
+}
+
+/// The entry of a decided transaction, before its place is known.
+fn entry_of(
+    alloc: Global,
+    txn: &Waiting,
+    outcome: Outcome,
+    revnos: &[i64],
+) -> Result<Entry, OutOfMemory>
+    ensures { IfOk result (λ entry. entry ≡ record { id = txn.now.id; ops = txn.now.ops; outcome = outcome; revnos = revnos.now; at = 0 }) }
+{
+    let ops = txn.ops.copy(alloc)?;
+    let revnos = Items::from_slice(alloc, revnos)?;
+    Ok(Entry {
+        id: txn.id,
+        ops,
+        outcome,
+        revnos,
+        at: 0,
+    })
+}
+
+/// Makes the update of the transaction, where it wasn't made yet.
+pub fn update<S: Store>(
+    alloc: Global,
+    store: &mut S,
+    txn: &Waiting,
+    nonce: u32,
+    revno: i64,
+) -> Result<Stage, StepError>
+    requires worth { IsTrue S.tells → IsWorth (S.content store.old) txn.now (Stage.Update nonce revno) }
+    ensures works { IsTrue S.tells → (order : List LogEntry) →
+        WorksOn S.content S.place S.calls store.old store.new order order txn.now.id }
+    ensures comes { IsTrue S.tells → ComesToStage (S.content store.new) txn.now result }
+    ensures nearer { IfOk result (λ next. steps_left next ≡ 1) }
+    ensures call { OneCall S.tells S.content S.place S.calls S.faults store.old store.new result StepError.StoreFault }
+{
+    let op = txn.ops.only();
+    let name = Name::Doc(op.key.copy(alloc)?);
+    let update = update_of(op).copy(alloc)?;
+    let token = Token { id: txn.id, nonce };
+    let change = Edit::Update {
+        revno,
+        token,
+        update,
+    };
+    match may_hit(alloc, store, name, change) {
+        Ok(_) => Ok(Stage::Finish),
+        Err(error) => Err(error),
+    }
+}
+
+/// Moves the transaction's record to applied.
+pub fn finish<S: Store>(alloc: Global, store: &mut S, txn: &Waiting) -> Result<Stage, StepError>
+    requires worth { IsTrue S.tells → IsWorth (S.content store.old) txn.now Stage.Finish }
+    ensures works { IsTrue S.tells → (order : List LogEntry) →
+        WorksOn S.content S.place S.calls store.old store.new order order txn.now.id }
+    ensures comes { IsTrue S.tells → ComesToStage (S.content store.new) txn.now result }
+    ensures nearer { IfOk result (λ next. steps_left next ≡ 0) }
+    ensures call { OneCall S.tells S.content S.place S.calls S.faults store.old store.new result StepError.StoreFault }
+{
+    let change = Edit::Move {
+        from: State::Applying,
+        to: State::Applied,
+        nonce: None,
+        revnos: None,
+    };
+    match must_hit(alloc, store, txn.id, Name::Record(txn.id), change) {
+        Ok(()) => Ok(Stage::Settled(Outcome::Applied)),
+        Err(error) => Err(error),
+    }
+}
+
+/// Moves the transaction's record to aborted.
+pub fn abort<S: Store>(alloc: Global, store: &mut S, txn: &Waiting) -> Result<Stage, StepError>
+    requires worth { IsTrue S.tells → IsWorth (S.content store.old) txn.now Stage.Abort }
+    ensures works { IsTrue S.tells → (order : List LogEntry) →
+        WorksOn S.content S.place S.calls store.old store.new order order txn.now.id }
+    ensures comes { IsTrue S.tells → ComesToStage (S.content store.new) txn.now result }
+    ensures nearer { IfOk result (λ next. steps_left next ≡ 0) }
+    ensures call { OneCall S.tells S.content S.place S.calls S.faults store.old store.new result StepError.StoreFault }
+{
+    let change = Edit::Move {
+        from: State::Aborting,
+        to: State::Aborted,
+        nonce: None,
+        revnos: None,
+    };
+    match must_hit(alloc, store, txn.id, Name::Record(txn.id), change) {
+        Ok(()) => Ok(Stage::Settled(Outcome::Aborted)),
+        Err(error) => Err(error),
+    }
+}
+
+/// The update of an operation.
+fn update_of(op: &Op) -> &Update
+    ensures { Change.Update result.now ≡ op.now.change }
+{
+    let Change::Update(update) = &op.change;
+    update
+}
