@@ -9,8 +9,6 @@ use Rattle.txn_record.proofs.KeyOrder.{key_cmp_total, key_cmp-IsAntisymmetric}
 use Rattle.txn_record.specs.Documents.{Docs, with_body, effect_of, body_after, assertion_holds, change_fits, tests}
 use Rattle.txn_record.specs.Keys.{key_cmp}
 use Rattle.txn_record.specs.declared.key.Key.{Key}
-use Rattle.txn_record.specs.declared.op.Assert.{Assert}
-use Rattle.txn_record.specs.declared.op.Assert.TheVariants.{Nothing}
 use Rattle.txn_record.specs.declared.op.Op.{Op}
 
 get-with_body : (key : Key) (found : Option Value) (docs : Docs) (q : Key) → get (with_body key found docs) q ≡ cond (eq_by_cmp key_cmp q key) found (get docs q)
@@ -34,9 +32,6 @@ get-effect_of_here op docs = get-with_body_here op.key (body_after op.change (ge
 
 pub get-effect_of_other : (op : Op) (docs : Docs) (key : Key) → key ≢ op.key → get (effect_of op docs) key ≡ get docs key
 get-effect_of_other op docs key apart = get-with_body_other op.key (body_after op.change (get docs op.key)) docs key apart
-
-pub no_assertion_fails : (assert : Assert) (found : Option Value) → assertion_holds assert found ≡ true
-no_assertion_fails Nothing found = refl
 
 and_true : (a b : Bool) → ((a && true) && (b && true)) ≡ (a && b)
 and_true true true = refl

@@ -4,7 +4,5 @@ pub mod SortedEntries
 pub mod DocLists
 pub mod DocumentLaws
 pub mod OrderLaws
-pub mod UpdateLaws
 pub mod WalkLaws
-pub mod FieldLaws
 pub mod RisingKeys

@@ -1,4 +1,4 @@
-use Rattle.std.specs.Prelude.{◌≡◌, map, Bool, true, ◌&&◌, not, List, [], ◌∷◌, Option, Some, None, is_some, unwrap_or}
+use Rattle.std.specs.Prelude.{◌≡◌, map, Bool, true, false, ◌&&◌, not, List, [], ◌∷◌, Option, Some, None, is_some, is_none, unwrap_or}
 use Rattle.std.specs.FinMap.{FinMap, get, contains_key, insert, remove}
 use Rattle.std.specs.List.{list_all, list_any}
 use Rattle.std.specs.Str.{bytes_eq}
@@ -10,12 +10,13 @@ use Rattle.txn_record.specs.declared.entry.Outcome.{Outcome}
 use Rattle.txn_record.specs.declared.entry.Outcome.TheVariants.{Applied, Aborted}
 use Rattle.txn_record.specs.declared.key.Key.{Key}
 use Rattle.txn_record.specs.declared.op.Assert.{Assert}
-use Rattle.txn_record.specs.declared.op.Assert.TheVariants.{Nothing}
+use Rattle.txn_record.specs.declared.op.Assert.TheVariants as assertion
 use Rattle.txn_record.specs.declared.op.Change.{Change}
-use Rattle.txn_record.specs.declared.op.Change.TheVariants.{Update}
+use Rattle.txn_record.specs.declared.op.Change.TheVariants as change
 use Rattle.txn_record.specs.declared.op.Op.{Op}
 use Rattle.txn_record.specs.Keys.{key_cmp}
-use Rattle.txn_record.specs.Updates.{updated}
+use Rattle.doc_query.specs.Meaning.{holds}
+use Rattle.doc_update.specs.Updates.{updated}
 
 -- the documents of a store: bodies by their keys
 abbrev pub Docs : Type 0
@@ -36,10 +37,15 @@ with_body key (Some body) docs = insert docs key body
 
 -- ---- what a transaction does
 
--- What a change makes of a document that is there or not. An update leaves a body that it doesn't fit.
+-- What a change makes of a document that is there or not. An insertion leaves one that is there, and an update
+-- a body that it doesn't fit.
 abbrev pub body_after : Change → Option Value → Option Value
-body_after (Update update) None = None
-body_after (Update update) (Some body) = Some (unwrap_or (updated update body) body)
+body_after change.Nothing found = found
+body_after (change.Insert body) None = Some body
+body_after (change.Insert body) (Some found) = Some found
+body_after (change.Update update) None = None
+body_after (change.Update update) (Some found) = Some (unwrap_or (updated update found) found)
+body_after change.Remove found = None
 
 abbrev pub effect_of : Op → Docs → Docs
 effect_of op docs = with_body op.key (body_after op.change (get docs op.key)) docs
@@ -51,14 +57,21 @@ effect (op ∷ ops) docs = effect ops (effect_of op docs)
 
 -- ---- when it may
 
--- whether an assertion holds of a document that is there or not
+-- whether an assertion holds of a document that is there or not; a query doesn't hold of a missing one
 abbrev pub assertion_holds : Assert → Option Value → Bool
-assertion_holds Nothing body = true
+assertion_holds assertion.Nothing found = true
+assertion_holds assertion.Exists found = is_some found
+assertion_holds assertion.Missing found = is_none found
+assertion_holds (assertion.Query query) None = false
+assertion_holds (assertion.Query query) (Some found) = holds query found
 
--- an update fits every body that it finds
+-- only an update may fail to fit, and only where it finds a document
 abbrev pub change_fits : Change → Option Value → Bool
-change_fits (Update update) None = true
-change_fits (Update update) (Some body) = is_some (updated update body)
+change_fits change.Nothing found = true
+change_fits (change.Insert body) found = true
+change_fits (change.Update update) None = true
+change_fits (change.Update update) (Some found) = is_some (updated update found)
+change_fits change.Remove found = true
 
 abbrev pub changes_fit : List Op → Docs → Bool
 changes_fit [] docs = true

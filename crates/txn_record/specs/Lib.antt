@@ -1,4 +1,3 @@
-pub mod Updates
 pub mod Transactions
 pub mod States
 pub mod Keys

@@ -1,4 +1,4 @@
-use Rattle.std.specs.Prelude.{ℕ, Bool, true, false, ◌&&◌, ◌||◌, nat_le, ℤ, pos, ◌+ℤ◌, int_lt, not, unsigned_abs, Option, Some, None, option_map, unwrap_or, List, [], ◌∷◌, if◌then◌else◌}
+use Rattle.std.specs.Prelude.{ℕ, Bool, true, false, ◌&&◌, ◌||◌, nat_le, ℤ, pos, ◌+ℤ◌, ◌-ℤ◌, neg_ℤ, int_lt, not, unsigned_abs, Option, Some, None, option_map, unwrap_or, List, [], ◌∷◌, if◌then◌else◌}
 use Rattle.std.specs.Ordering.{int_eq, is_eq}
 use Rattle.txn_record.specs.Keys.{key_cmp}
 use Rattle.txn_record.specs.declared.key.Key.{Key}
@@ -13,9 +13,25 @@ same_key a b = is_eq (key_cmp a b)
 abbrev pub is_present : ℤ → Bool
 is_present revno = not (int_lt revno (pos 0))
 
+-- Whether a change does something where it finds this number: an insertion to a missing document, an update or a
+-- removal to a present one.
+abbrev pub has_effect : Change → ℤ → Bool
+has_effect change.Nothing revno = false
+has_effect (change.Insert _) revno = not (is_present revno)
+has_effect (change.Update _) revno = is_present revno
+has_effect change.Remove revno = is_present revno
+
+-- The number that a change leaves where it does something: one more in absolute value, of the sign that says whether
+-- the document is there afterwards.
+abbrev pub next_number : Change → ℤ → ℤ
+next_number change.Nothing revno = revno
+next_number (change.Insert _) revno = neg_ℤ revno +ℤ pos 1
+next_number (change.Update _) revno = revno +ℤ pos 1
+next_number change.Remove revno = neg_ℤ revno -ℤ pos 1
+
 -- the number that a change leaves where it finds this one
 abbrev pub number_after : Change → ℤ → ℤ
-number_after (change.Update _) revno = if is_present revno then revno +ℤ pos 1 else revno
+number_after change revno = if has_effect change revno then next_number change revno else revno
 
 -- the number that the first of these operations on a key finds
 abbrev pub first_on : Key → List Op → List ℤ → Option ℤ

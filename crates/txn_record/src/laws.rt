@@ -1,18 +1,13 @@
 //! Laws of the sequential side: of operations on documents, and of recorded orders. The crates above
 //! cite them by these contracts.
-ghost use Rattle.std.specs.Prelude.{◌≡◌, ◌≢◌, ◌&&◌, ℕ, Option, [], ◌∷◌, ◌++◌, List, true, false, is_ok, IsSomeAnd};
+ghost use Rattle.std.specs.Prelude.{◌≡◌, ◌≢◌, ◌&&◌, [], ◌∷◌, ◌++◌, List, true, false};
 ghost use Rattle.std.specs.declared.cmp.Ordering.TheVariants.{Less};
 ghost use Rattle.std.specs.FinMap.{empty, get, insert};
-ghost use Rattle.std.specs.Str.{is_utf8};
-ghost use Rattle.doc_value.specs.Paths.{path_in};
-ghost use Rattle.doc_value.specs.declared.value.Value.{Value};
 ghost use Rattle.txn_record.specs.declared.entry.Entry.{Entry};
 ghost use Rattle.txn_record.specs.declared.key.Key.{Key};
-ghost use Rattle.txn_record.specs.declared.op.Assert.{Assert};
 ghost use Rattle.txn_record.specs.declared.op.Op.{Op};
 ghost use Rattle.txn_record.specs.Documents.{Docs, IsPast, effect, effect_of, body_after, assertion_holds, change_fits, tests, outcome_effect, after, is_right, has_entry, legal};
 ghost use Rattle.txn_record.specs.Keys.{key_cmp};
-ghost use Rattle.txn_record.specs.Updates.{holds_byte, is_settable, is_update, is_object, updated};
 
 /// An operation changes nothing but the body at its key.
 pub fn changes_are_local()
@@ -25,11 +20,6 @@ pub fn operations_alone()
     ensures effect { (op : Op) (docs : Docs) → effect (op ∷ []) docs ≡ effect_of op docs }
     ensures tests { (op : Op) (docs : Docs) →
         tests (op ∷ []) docs ≡ (assertion_holds op.assert (get docs op.key) && change_fits op.change (get docs op.key)) }
-{}
-
-/// No assertion of the forms built so far can fail.
-pub fn assertions_hold()
-    ensures { (assert : Assert) (found : Option Value) → assertion_holds assert found ≡ true }
 {}
 
 /// A key stands after the documents' keys until one that isn't below it is added.
@@ -47,15 +37,4 @@ pub fn orders_grow()
         legal base entries ≡ true → has_entry entries entry ≡ false →
         is_right entry.outcome (tests entry.ops (after base entries)) ≡ true →
         legal base (entries ++ entry ∷ []) ≡ true }
-{}
-
-/// Each update of the form built so far fits each object, and makes an object of it.
-pub fn updates_fit_objects()
-    ensures { (update body : Value) → is_update update ≡ true → is_object body ≡ true →
-        IsSomeAnd (updated update body) (λ made. is_object made ≡ true) }
-{}
-
-/// A text without a dot may be set exactly where it is a path.
-pub fn settable_fields_are_paths()
-    ensures { (name : List ℕ) → is_utf8 name ≡ true → holds_byte 46 name ≡ false → is_settable name ≡ is_ok (path_in name) }
 {}

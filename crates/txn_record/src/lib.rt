@@ -10,20 +10,15 @@ mod op;
 mod ops;
 mod record;
 mod state;
-#[cfg(test)]
-mod tests;
-mod update;
 
 pub use docs::{Doc, Docs};
 pub use entry::{Entry, Outcome};
 pub use id::{Token, TxnId, ids_are_ordered, tokens_read_back};
 pub use key::{Key, keys_are_ordered};
 pub use laws::{
-    assertions_hold, changes_are_local, documents_rise, operations_alone, orders_grow,
-    settable_fields_are_paths, updates_fit_objects,
+    changes_are_local, documents_rise, operations_alone, orders_grow,
 };
 pub use op::{Assert, Change, Op};
 pub use ops::Ops;
 pub use record::Record;
 pub use state::State;
-pub use update::{Update, apply, fits};
