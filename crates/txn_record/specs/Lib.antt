@@ -4,5 +4,6 @@ pub mod Keys
 pub mod Ids
 pub mod Documents
 pub mod Operations
+pub mod Reading
 pub mod Revnos
 pub mod Walks

@@ -8,6 +8,7 @@ ghost use Rattle.txn_record.specs.declared.key.Key.{Key};
 ghost use Rattle.txn_record.specs.declared.op.Op.{Op};
 ghost use Rattle.txn_record.specs.Documents.{Docs, IsPast, effect, effect_of, body_after, assertion_holds, change_fits, tests, outcome_effect, after, is_right, has_entry, legal};
 ghost use Rattle.txn_record.specs.Keys.{key_cmp};
+ghost use Rattle.doc_value.specs.declared.value.Value.{Value};
 
 /// An operation changes nothing but the body at its key.
 pub fn changes_are_local()

@@ -3,15 +3,18 @@
 
 mod docs;
 mod entry;
+mod fault;
 mod id;
 mod key;
 mod laws;
 mod op;
 mod ops;
+mod read;
 mod record;
 mod state;
 
 pub use docs::{Doc, Docs};
+pub use fault::{OpFault, OpsFault};
 pub use entry::{Entry, Outcome};
 pub use id::{Token, TxnId, ids_are_ordered, tokens_read_back};
 pub use key::{Key, keys_are_ordered};
