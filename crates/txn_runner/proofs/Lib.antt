@@ -4,3 +4,4 @@ pub mod Beside
 pub mod Stages
 pub mod Submitting
 pub mod CallsMade
+pub mod Numbers

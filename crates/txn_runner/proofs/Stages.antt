@@ -7,8 +7,8 @@ use Rattle.std.specs.Option.{option_and_then, ok_or}
 use Rattle.std.proofs.lemmas.Bool.{and_parts}
 use Rattle.std.proofs.lemmas.Bool.Decides.{nat_tests}
 use Rattle.doc_value.specs.declared.value.Value.{Value}
-use Rattle.txn_record.specs.Documents.{change_fits}
-use Rattle.txn_record.specs.Revnos.{is_present, is_within, number_after}
+use Rattle.txn_record.specs.Documents.{assertion_holds, change_fits}
+use Rattle.txn_record.specs.Revnos.{has_effect, is_within, number_after}
 use Rattle.txn_record.specs.States.{is_decided_state}
 use Rattle.txn_record.specs.declared.id.Token.{Token}
 use Rattle.txn_record.specs.declared.id.TxnId.{TxnId}
@@ -43,6 +43,7 @@ use Rattle.store_laws.proofs.DocEdits.{add_quiet, draw_quiet}
 use Rattle.store_laws.proofs.Hits.{move_hit, add_hit, move_must, add_must}
 use Rattle.store_laws.proofs.Local.{edited_there}
 use Rattle.store_laws.proofs.Nonces.{preparing_none}
+use Rattle.store_laws.proofs.NumberAfter.{after_rises}
 use Rattle.store_laws.proofs.OneOperation.{tests_one, chain_one}
 use Rattle.store_laws.proofs.Owners.{doc_held_alone}
 use Rattle.store_laws.proofs.PlainEdits.{plain_record, plain_nonce, plain_add, plain_update}
@@ -230,8 +231,11 @@ module _ (c : Content) (txn : Waiting) (nonce : ℕ) (w : IsWorth c txn (stage.P
 -- ---- the document is looked at
 
 within_next : (u : Change) (revno : ℤ) → unsigned_abs revno ≤ last_revno → is_within (number_after u revno) ≡ true
-within_next (change.Update update) (pos n) low = grind (arith, nat_tests, low)
-within_next (change.Update update) (negsuc n) low = grind (arith, nat_tests, low)
+within_next u revno low = by (number_after u revno) (after_rises u revno)
+  where
+    by : (next : ℤ) → (next ≡ revno) ⊎ (unsigned_abs next ≡ unsigned_abs revno + 1) → is_within next ≡ true
+    by next (inl same) = grind (arith, nat_tests, low, ap unsigned_abs same)
+    by next (inr more) = grind (arith, nat_tests, low, more)
 
 decided_now : (c : Content) (txn : Waiting) (nonce : ℕ) → IsThere c txn state.Prepared (Some nonce) None → decided (look c) txn.id ≡ true
 unfolding look decided
@@ -242,8 +246,8 @@ module _ (c : Content) (txn : Waiting) (op : Op) (one : txn.ops ≡ op ∷ []) (
   pub look_there : is_some (doc_at c op.key) ≡ true
   look_there = doc_found c w.sound op.key _ (get c (name.Doc op.key)) refl (has_doc c txn op one w.docs) (λ doc there. ap is_some there)
 
-  pub look_worth : (doc : DocCell) → doc_at c op.key ≡ Some doc → unsigned_abs doc.revno ≤ last_revno → (fits : Bool) → fits ≡ change_fits op.change (Some doc.body) → IsWorth c txn (stage.Decide nonce doc.revno fits)
-  look_worth doc there low fits told =
+  pub look_worth : (doc : DocCell) → doc_at c op.key ≡ Some doc → unsigned_abs doc.revno ≤ last_revno → (holds : Bool) → holds ≡ (assertion_holds op.assert (Some doc.body) && change_fits op.change (Some doc.body)) → IsWorth c txn (stage.Decide nonce doc.revno holds)
+  look_worth doc there low holds told =
       let held = doc_held_alone c op.key doc there (w.plain.no_stash op.key) in
       let ready = alone_ready w.alone (decided_now c txn nonce w.stage) in
       record {
@@ -253,7 +257,7 @@ module _ (c : Content) (txn : Waiting) (op : Op) (one : txn.ops ≡ op ∷ []) (
         docs = w.docs;
         stage = (
           w.stage,
-          tests_one c txn.id (stored txn state.Prepared (Some nonce) None) op w.sound w.stage refl ready one ∙ ap (λ h. change_fits op.change (body_in h)) held ∙ sym told,
+          tests_one c txn.id (stored txn state.Prepared (Some nonce) None) op w.sound w.stage refl ready one ∙ ap (λ h. assertion_holds op.assert (body_in h) && change_fits op.change (body_in h)) held ∙ sym told,
           subst (λ (ops : List Op). IsChainFrom (look c) ops (doc.revno ∷ [])) (sym one)
               (subst (λ (r : ℤ). IsChainFrom (look c) (op ∷ []) (r ∷ [])) (ap held_number held)
               (chain_one c op w.sound (ap (λ h. is_within (number_after op.change (held_number h))) held ∙ within_next op.change doc.revno low))),
@@ -262,18 +266,12 @@ module _ (c : Content) (txn : Waiting) (op : Op) (one : txn.ops ≡ op ∷ []) (
 
 -- ---- the decision
 
--- an operation that found no document has nothing left to do
-passed_missing : (c : Content) (ops : List Op) (revno : ℤ) → is_present revno ≡ false → AllPassed c ops (revno ∷ [])
-passed_missing c [] revno missing = tt
-passed_missing c (op ∷ []) revno missing = (inl missing, tt)
-passed_missing c (op ∷ next ∷ ops) revno missing = (inl missing, tt)
-
 module _ (c : Content) (txn : Waiting) (nonce : ℕ) (revno : ℤ) where
-  pub apply_hits : (fits : Bool) (w : IsWorth c txn (stage.Decide nonce revno fits)) (to : State) (numbers : Option (List ℤ)) → is_some (hit (edit.Move state.Prepared to None numbers) (name.Record txn.id) (get c (name.Record txn.id))) ≡ true
-  apply_hits fits w to numbers = move_hits c txn state.Prepared to (Some nonce) None None numbers w.stage.0
+  pub apply_hits : (holds : Bool) (w : IsWorth c txn (stage.Decide nonce revno holds)) (to : State) (numbers : Option (List ℤ)) → is_some (hit (edit.Move state.Prepared to None numbers) (name.Record txn.id) (get c (name.Record txn.id))) ≡ true
+  apply_hits holds w to numbers = move_hits c txn state.Prepared to (Some nonce) None None numbers w.stage.0
 
-  ready_now : (fits : Bool) → IsWorth c txn (stage.Decide nonce revno fits) → IsReady (look c) txn.id
-  ready_now fits w = alone_ready w.alone (decided_now c txn nonce w.stage.0)
+  ready_now : (holds : Bool) → IsWorth c txn (stage.Decide nonce revno holds) → IsReady (look c) txn.id
+  ready_now holds w = alone_ready w.alone (decided_now c txn nonce w.stage.0)
 
   pub apply_applies : IsWorth c txn (stage.Decide nonce revno true) → Applies c (edited c (name.Record txn.id) (edit.Move state.Prepared state.Applying None (Some (revno ∷ [])))) (stored txn state.Applying (Some nonce) (Some (revno ∷ [])))
   apply_applies w = apply_decides c txn.id (stored txn state.Prepared (Some nonce) None) w.sound w.stage.0 refl (ready_now true w) (revno ∷ []) w.stage.2 w.stage.1
@@ -281,12 +279,12 @@ module _ (c : Content) (txn : Waiting) (nonce : ℕ) (revno : ℤ) where
   pub give_up_aborts : IsWorth c txn (stage.Decide nonce revno false) → Aborts c (edited c (name.Record txn.id) (edit.Move state.Prepared state.Aborting None None)) (stored txn state.Aborting (Some nonce) None)
   give_up_aborts w = abort_decides c txn.id (stored txn state.Prepared (Some nonce) None) w.sound w.stage.0 refl (ready_now false w) w.stage.1
 
-  applied_there : (fits : Bool) → IsWorth c txn (stage.Decide nonce revno fits) → IsThere (edited c (name.Record txn.id) (edit.Move state.Prepared state.Applying None (Some (revno ∷ [])))) txn state.Applying (Some nonce) (Some (revno ∷ []))
-  applied_there fits w = moved_there c txn state.Prepared state.Applying (Some nonce) None None (Some (revno ∷ [])) w.stage.0
+  applied_there : (holds : Bool) → IsWorth c txn (stage.Decide nonce revno holds) → IsThere (edited c (name.Record txn.id) (edit.Move state.Prepared state.Applying None (Some (revno ∷ [])))) txn state.Applying (Some nonce) (Some (revno ∷ []))
+  applied_there holds w = moved_there c txn state.Prepared state.Applying (Some nonce) None None (Some (revno ∷ [])) w.stage.0
 
-  pub apply_worth : IsWorth c txn (stage.Decide nonce revno true) → (next : Stage) → (is_present revno ≡ true → next ≡ stage.Update nonce revno) → (is_present revno ≡ false → next ≡ stage.Finish)
+  pub apply_worth : IsWorth c txn (stage.Decide nonce revno true) → (op : Op) → txn.ops ≡ op ∷ [] → (next : Stage) → (has_effect op.change revno ≡ true → next ≡ stage.Update nonce revno) → (has_effect op.change revno ≡ false → next ≡ stage.Finish)
       → IsWorth (edited c (name.Record txn.id) (edit.Move state.Prepared state.Applying None (Some (revno ∷ [])))) txn next
-  apply_worth w next present missing = by (is_present revno) refl
+  apply_worth w op one next changes idle = by (has_effect op.change revno) refl
     where
       stands : (at : Stage) → StageIsWorth (edited c (name.Record txn.id) (edit.Move state.Prepared state.Applying None (Some (revno ∷ [])))) txn at → IsWorth (edited c (name.Record txn.id) (edit.Move state.Prepared state.Applying None (Some (revno ∷ [])))) txn at
       stands at stage = record {
@@ -297,13 +295,13 @@ module _ (c : Content) (txn : Waiting) (nonce : ℕ) (revno : ℤ) where
         stage = stage;
       }
 
-      by : (t : Bool) → is_present revno ≡ t → IsWorth (edited c (name.Record txn.id) (edit.Move state.Prepared state.Applying None (Some (revno ∷ [])))) txn next
-      by true is = subst (IsWorth (edited c (name.Record txn.id) (edit.Move state.Prepared state.Applying None (Some (revno ∷ [])))) txn) (sym (present is)) (stands (stage.Update nonce revno) (applied_there true w))
-      by false is = subst (IsWorth (edited c (name.Record txn.id) (edit.Move state.Prepared state.Applying None (Some (revno ∷ [])))) txn) (sym (missing is)) (stands stage.Finish (record {
+      by : (t : Bool) → has_effect op.change revno ≡ t → IsWorth (edited c (name.Record txn.id) (edit.Move state.Prepared state.Applying None (Some (revno ∷ [])))) txn next
+      by true is = subst (IsWorth (edited c (name.Record txn.id) (edit.Move state.Prepared state.Applying None (Some (revno ∷ [])))) txn) (sym (changes is)) (stands (stage.Update nonce revno) (applied_there true w))
+      by false is = subst (IsWorth (edited c (name.Record txn.id) (edit.Move state.Prepared state.Applying None (Some (revno ∷ [])))) txn) (sym (idle is)) (stands stage.Finish (record {
         nonce = nonce;
         revno = revno;
         there = applied_there true w;
-        passed = passed_missing (edited c (name.Record txn.id) (edit.Move state.Prepared state.Applying None (Some (revno ∷ [])))) txn.ops revno is;
+        passed = subst (λ (ops : List Op). AllPassed (edited c (name.Record txn.id) (edit.Move state.Prepared state.Applying None (Some (revno ∷ [])))) ops (revno ∷ [])) (sym one) (inl is, tt);
       }))
 
   pub give_up_worth : IsWorth c txn (stage.Decide nonce revno false) → IsWorth (edited c (name.Record txn.id) (edit.Move state.Prepared state.Aborting None None)) txn stage.Abort
@@ -347,7 +345,7 @@ module _ (c : Content) (txn : Waiting) (op : Op) (one : txn.ops ≡ op ∷ []) (
           revno = revno;
           there = record_elsewhere c (name.Doc op.key) e txn.id (λ h. cc h) ∙ w.stage;
           passed = subst (λ (ops : List Op). AllPassed d ops (revno ∷ [])) (sym one)
-              (update_passes_alone c w.sound txn.id (stored txn state.Applying (Some nonce) (Some (revno ∷ []))) op revno update applies (ap length one) nonce refl, tt);
+              (update_passes_alone c w.sound txn.id (stored txn state.Applying (Some nonce) (Some (revno ∷ []))) op revno update applies one nonce refl, tt);
         };
       }
 

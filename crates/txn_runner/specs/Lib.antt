@@ -4,3 +4,5 @@ pub mod Settling
 pub mod Store
 pub mod Causes
 pub mod Calm
+pub mod Built
+pub mod Numbers

@@ -6,13 +6,16 @@
 //! (`settle#works`, `submit#works`).
 #![tactic(auto)]
 
+mod built;
 mod calls;
 mod error;
 mod settling;
 mod stage;
 mod steps;
+mod testing;
 mod waiting;
 
+pub use built::is_built;
 pub use error::StepError;
 pub use settling::settle;
 pub use stage::Stage;

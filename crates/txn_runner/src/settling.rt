@@ -1,9 +1,11 @@
 //! How a runner settles one transaction after the other.
 
-ghost use Rattle.std.specs.Prelude.{◌≡◌, ◌<◌, IsTrue, IfOk, IfErr, IsErrOf};
+ghost use Rattle.std.specs.Prelude.{◌≡◌, ◌<◌, true, IsTrue, IfOk, IfErr, IsErrOf};
 ghost use Rattle.store_trait.specs.Calls.{CallsGoOn, OneCall, Rose};
 ghost use Rattle.txn_runner.specs.Settling.{IsWorth, WorksOn, ComesToStage, MayStop};
-ghost use Rattle.txn_runner.specs.Stages.{steps_left};
+ghost use Rattle.txn_runner.specs.Built.{is_built};
+ghost use Rattle.txn_runner.specs.Numbers.{Uses};
+ghost use Rattle.txn_runner.specs.Stages.{steps_left, suits, UsesUpTo};
 
 use crate::error::StepError;
 use crate::stage::Stage;
@@ -22,11 +24,13 @@ pub fn settle<S: Store>(
     txn: &Waiting,
 ) -> Result<Outcome, StepError>
     requires worth { IsTrue S.tells → IsWorth (S.content store.old) txn.now Stage.Draw }
+    requires built { is_built txn.now.ops ≡ true }
     ensures works { IsTrue S.tells →
         WorksOn S.content S.place S.calls store.old store.new order.old.items order.new.items txn.now.id }
     ensures settled { IsTrue S.tells → IfOk result
         (λ outcome. IsWorth (S.content store.new) txn.now (Stage.Settled outcome)) }
     ensures cause { IsTrue S.tells → IfErr result (MayStop (S.content store.new)) }
+    ensures uses { IsTrue S.tells → Uses (S.content store.old) (S.content store.new) 1 1 0 0 }
     ensures calls { CallsGoOn S.tells S.content S.place S.calls S.faults store.old store.new }
     ensures fault { IsErrOf result StepError.StoreFault → Rose (S.faults store.old) (S.faults store.new) }
 {
@@ -49,10 +53,14 @@ fn advance<S: Store>(
 ) -> Result<Stage, StepError>
     requires worth { IsTrue S.tells → IsWorth (S.content store.old) txn.now stage }
     requires left { 0 < steps_left stage }
+    requires built { is_built txn.now.ops ≡ true }
+    requires suits { suits txn.now.ops stage ≡ true }
     ensures works { IsTrue S.tells →
         WorksOn S.content S.place S.calls store.old store.new order.old.items order.new.items txn.now.id }
     ensures comes { IsTrue S.tells → ComesToStage (S.content store.new) txn.now result }
     ensures nearer { IfOk result (λ next. steps_left next < steps_left stage) }
+    ensures uses { IsTrue S.tells → UsesUpTo (S.content store.old) (S.content store.new) stage result }
+    ensures suits { IfOk result (λ next. suits txn.now.ops next ≡ true) }
     ensures call { OneCall S.tells S.content S.place S.calls S.faults store.old store.new result StepError.StoreFault }
 {
     match stage {
@@ -60,9 +68,11 @@ fn advance<S: Store>(
         Stage::Queue { nonce } => steps::queue(alloc, store, txn, nonce),
         Stage::Prepare { nonce } => steps::prepare(alloc, store, txn, nonce),
         Stage::Look { nonce } => steps::look(alloc, store, txn, nonce),
-        Stage::Decide { nonce, revno, fits } => {
-            steps::decide(alloc, store, order, txn, nonce, revno, fits)
-        }
+        Stage::Decide {
+            nonce,
+            revno,
+            holds,
+        } => steps::decide(alloc, store, order, txn, nonce, revno, holds),
         Stage::Update { nonce, revno } => steps::update(alloc, store, txn, nonce, revno),
         Stage::Finish => steps::finish(alloc, store, txn),
         Stage::Abort => steps::abort(alloc, store, txn),

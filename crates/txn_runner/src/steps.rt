@@ -4,22 +4,26 @@
 ghost use Rattle.std.specs.Prelude.{◌≡◌, ◌<◌, ℕ, List, [], ◌∷◌, true, false, None, IsTrue, IfOk, IfErr, OnOk};
 ghost use Rattle.store_trait.specs.Calls.{OneCall};
 ghost use Rattle.txn_record.specs.declared.entry.Entry.{Entry as LogEntry};
-ghost use Rattle.txn_record.specs.Revnos.{is_present};
+ghost use Rattle.txn_record.specs.Revnos.{has_effect};
 ghost use Rattle.store_trait.specs.View.{record_at};
 ghost use Rattle.txn_runner.specs.Calm.{IsCalm};
 ghost use Rattle.txn_runner.specs.Causes.{IsMissed, IsOfStore, drawn_of, IsUndrawn};
 ghost use Rattle.txn_runner.specs.Settling.{IsWorth, WorksOn, ComesToStage, IsSubmitted, preparing_record};
-ghost use Rattle.txn_runner.specs.Stages.{steps_left};
+ghost use Rattle.txn_runner.specs.Built.{is_built, is_built_change, is_update, updates};
+ghost use Rattle.txn_runner.specs.Numbers.{Uses};
+ghost use Rattle.txn_runner.specs.Stages.{steps_left, suits, UsesUpTo};
 
+use crate::built::{only, update_of};
 use crate::calls::{edit, may_hit, must_hit, read_document};
 use crate::error::StepError;
 use crate::stage::Stage;
+use crate::testing::tests_hold;
 use crate::waiting::Waiting;
 use doc_value::OutOfMemory;
 use sqlite_items::Items;
 use std::alloc::Global;
 use store_trait::{Edit, Name, Store, counter_in};
-use txn_record::{Change, Entry, Op, Outcome, Record, State, Token, TxnId, Update, fits};
+use txn_record::{Change, Entry, Op, Outcome, Record, State, Token, TxnId};
 
 /// The greatest absolute value of a revision number at which a chain may begin.
 const LAST_REVNO: u64 = 4_611_686_018_427_386_903;
@@ -36,6 +40,7 @@ pub fn submit<S: Store>(alloc: Global, store: &mut S, txn: &Waiting) -> Result<b
     ensures calm { IsTrue S.tells → IsCalm (S.content store.new) }
     ensures stands { IsTrue S.tells → IfOk result
         (λ hits. (hits ≡ true) × IsSubmitted (S.content store.new) txn.now) }
+    ensures uses { IsTrue S.tells → Uses (S.content store.old) (S.content store.new) 0 0 0 0 }
     ensures kind { IfErr result IsOfStore }
     ensures call { OneCall S.tells S.content S.place S.calls S.faults store.old store.new result StepError.StoreFault }
 {
@@ -66,6 +71,8 @@ pub fn draw<S: Store>(alloc: Global, store: &mut S, txn: &Waiting) -> Result<Sta
         WorksOn S.content S.place S.calls store.old store.new order order txn.now.id }
     ensures comes { IsTrue S.tells → ComesToStage (S.content store.new) txn.now result }
     ensures nearer { IfOk result (λ next. steps_left next ≡ 6) }
+    ensures uses { IsTrue S.tells → UsesUpTo (S.content store.old) (S.content store.new) Stage.Draw result }
+    ensures suits { IfOk result (λ next. suits txn.now.ops next ≡ true) }
     ensures cause { IfErr result (IsUndrawn S.answered store.old txn.now.id store.new) }
     ensures call { OneCall S.tells S.content S.place S.calls S.faults store.old store.new result StepError.StoreFault }
 {
@@ -96,14 +103,17 @@ pub fn queue<S: Store>(
     nonce: u32,
 ) -> Result<Stage, StepError>
     requires worth { IsTrue S.tells → IsWorth (S.content store.old) txn.now (Stage.Queue nonce) }
+    requires built { is_built txn.now.ops ≡ true }
     ensures works { IsTrue S.tells → (order : List LogEntry) →
         WorksOn S.content S.place S.calls store.old store.new order order txn.now.id }
     ensures comes { IsTrue S.tells → ComesToStage (S.content store.new) txn.now result }
     ensures nearer { IfOk result (λ next. steps_left next ≡ 5) }
+    ensures uses { IsTrue S.tells → UsesUpTo (S.content store.old) (S.content store.new) (Stage.Queue nonce) result }
+    ensures suits { IfOk result (λ next. suits txn.now.ops next ≡ true) }
     ensures call { OneCall S.tells S.content S.place S.calls S.faults store.old store.new result StepError.StoreFault }
 {
     let id = txn.id;
-    let name = Name::Doc(txn.ops.only().key.copy(alloc)?);
+    let name = Name::Doc(only(txn).key.copy(alloc)?);
     let token = Token { id, nonce };
     match must_hit(alloc, store, id, name, Edit::AddToken { token }) {
         Ok(()) => Ok(Stage::Prepare { nonce }),
@@ -123,6 +133,8 @@ pub fn prepare<S: Store>(
         WorksOn S.content S.place S.calls store.old store.new order order txn.now.id }
     ensures comes { IsTrue S.tells → ComesToStage (S.content store.new) txn.now result }
     ensures nearer { IfOk result (λ next. steps_left next ≡ 4) }
+    ensures uses { IsTrue S.tells → UsesUpTo (S.content store.old) (S.content store.new) (Stage.Prepare nonce) result }
+    ensures suits { IfOk result (λ next. suits txn.now.ops next ≡ true) }
     ensures call { OneCall S.tells S.content S.place S.calls S.faults store.old store.new result StepError.StoreFault }
 {
     let change = Edit::Move {
@@ -137,7 +149,7 @@ pub fn prepare<S: Store>(
     }
 }
 
-/// Reads the transaction's document: its number, and whether the update fits there.
+/// Reads the transaction's document: its number, and whether the transaction's tests hold there.
 pub fn look<S: Store>(
     alloc: Global,
     store: &mut S,
@@ -145,20 +157,23 @@ pub fn look<S: Store>(
     nonce: u32,
 ) -> Result<Stage, StepError>
     requires worth { IsTrue S.tells → IsWorth (S.content store.old) txn.now (Stage.Look nonce) }
+    requires built { is_built txn.now.ops ≡ true }
     ensures works { IsTrue S.tells → (order : List LogEntry) →
         WorksOn S.content S.place S.calls store.old store.new order order txn.now.id }
     ensures comes { IsTrue S.tells → ComesToStage (S.content store.new) txn.now result }
     ensures nearer { IfOk result (λ next. steps_left next ≡ 3) }
+    ensures uses { IsTrue S.tells → UsesUpTo (S.content store.old) (S.content store.new) (Stage.Look nonce) result }
+    ensures suits { IfOk result (λ next. suits txn.now.ops next ≡ true) }
     ensures call { OneCall S.tells S.content S.place S.calls S.faults store.old store.new result StepError.StoreFault }
 {
-    let op = txn.ops.only();
+    let op = only(txn);
     let key = op.key.copy(alloc)?;
     match read_document(alloc, store, txn.id, &op.key) {
         Ok(doc) if doc.revno.unsigned_abs() > LAST_REVNO => Err(StepError::RevnoSpent { key }),
         Ok(doc) => Ok(Stage::Decide {
             nonce,
             revno: doc.revno,
-            fits: fits(update_of(op), &doc.body),
+            holds: tests_hold(op, &doc.body),
         }),
         Err(error) => Err(error),
     }
@@ -173,16 +188,19 @@ pub fn decide<S: Store>(
     txn: &Waiting,
     nonce: u32,
     revno: i64,
-    fits: bool,
+    holds: bool,
 ) -> Result<Stage, StepError>
-    requires worth { IsTrue S.tells → IsWorth (S.content store.old) txn.now (Stage.Decide nonce revno fits) }
+    requires worth { IsTrue S.tells → IsWorth (S.content store.old) txn.now (Stage.Decide nonce revno holds) }
+    requires built { is_built txn.now.ops ≡ true }
     ensures works { IsTrue S.tells →
         WorksOn S.content S.place S.calls store.old store.new order.old.items order.new.items txn.now.id }
     ensures comes { IsTrue S.tells → ComesToStage (S.content store.new) txn.now result }
     ensures nearer { IfOk result (λ next. steps_left next < 3) }
+    ensures uses { IsTrue S.tells → UsesUpTo (S.content store.old) (S.content store.new) (Stage.Decide nonce revno holds) result }
+    ensures suits { IfOk result (λ next. suits txn.now.ops next ≡ true) }
     ensures call { OneCall S.tells S.content S.place S.calls S.faults store.old store.new result StepError.StoreFault }
 {
-    if fits {
+    if holds {
         apply(alloc, store, order, txn, nonce, revno)
     } else {
         give_up(alloc, store, order, txn, nonce, revno)
@@ -199,10 +217,13 @@ fn apply<S: Store>(
     revno: i64,
 ) -> Result<Stage, StepError>
     requires worth { IsTrue S.tells → IsWorth (S.content store.old) txn.now (Stage.Decide nonce revno true) }
+    requires built { is_built txn.now.ops ≡ true }
     ensures works { IsTrue S.tells →
         WorksOn S.content S.place S.calls store.old store.new order.old.items order.new.items txn.now.id }
     ensures comes { IsTrue S.tells → ComesToStage (S.content store.new) txn.now result }
     ensures nearer { IfOk result (λ next. steps_left next < 3) }
+    ensures uses { IsTrue S.tells → UsesUpTo (S.content store.old) (S.content store.new) (Stage.Decide nonce revno true) result }
+    ensures suits { IfOk result (λ next. suits txn.now.ops next ≡ true) }
     ensures call { OneCall S.tells S.content S.place S.calls S.faults store.old store.new result StepError.StoreFault }
 {
     let revnos = Items::from_slice(alloc, &[revno])?;
@@ -218,7 +239,7 @@ fn apply<S: Store>(
         Ok(()) => {
             entry.at = store.calls();
             match order.push(entry) {
-                Ok(()) => Ok(after_decision(nonce, revno)),
+                Ok(()) => Ok(after_decision(only(txn), nonce, revno)),
                 Err(_) => unreachable!(),
             }
         }
@@ -226,16 +247,17 @@ fn apply<S: Store>(
     }
 }
 
-/// What is left to do for a transaction that applies: nothing, where it found no document.
-fn after_decision(nonce: u32, revno: i64) -> Stage
+/// What is left to do for a transaction that applies: its update, where its operation makes one.
+fn after_decision(op: &Op, nonce: u32, revno: i64) -> Stage
+    requires built { is_built_change op.now.change ≡ true }
     ensures nearer { steps_left result < 3 }
-    ensures missing { is_present revno ≡ false → result ≡ Stage.Finish }
-    ensures present { is_present revno ≡ true → result ≡ Stage.Update nonce revno }
+    ensures idle { has_effect op.now.change revno ≡ false → result ≡ Stage.Finish }
+    ensures changes { has_effect op.now.change revno ≡ true → result ≡ Stage.Update nonce revno }
+    ensures suits { suits (op.now ∷ []) result ≡ true }
 {
-    if revno < 0 {
-        Stage::Finish
-    } else {
-        Stage::Update { nonce, revno }
+    match &op.change {
+        Change::Update(_) if revno >= 0 => Stage::Update { nonce, revno },
+        _ => Stage::Finish,
     }
 }
 
@@ -253,6 +275,8 @@ fn give_up<S: Store>(
         WorksOn S.content S.place S.calls store.old store.new order.old.items order.new.items txn.now.id }
     ensures comes { IsTrue S.tells → ComesToStage (S.content store.new) txn.now result }
     ensures nearer { IfOk result (λ next. steps_left next < 3) }
+    ensures uses { IsTrue S.tells → UsesUpTo (S.content store.old) (S.content store.new) (Stage.Decide nonce revno false) result }
+    ensures suits { IfOk result (λ next. suits txn.now.ops next ≡ true) }
     ensures call { OneCall S.tells S.content S.place S.calls S.faults store.old store.new result StepError.StoreFault }
 {
     let mut entry = entry_of(alloc, txn, Outcome::Aborted, &[])?;
@@ -304,13 +328,17 @@ pub fn update<S: Store>(
     revno: i64,
 ) -> Result<Stage, StepError>
     requires worth { IsTrue S.tells → IsWorth (S.content store.old) txn.now (Stage.Update nonce revno) }
+    requires built { is_built txn.now.ops ≡ true }
+    requires updates { updates txn.now.ops ≡ true }
     ensures works { IsTrue S.tells → (order : List LogEntry) →
         WorksOn S.content S.place S.calls store.old store.new order order txn.now.id }
     ensures comes { IsTrue S.tells → ComesToStage (S.content store.new) txn.now result }
     ensures nearer { IfOk result (λ next. steps_left next ≡ 1) }
+    ensures uses { IsTrue S.tells → UsesUpTo (S.content store.old) (S.content store.new) (Stage.Update nonce revno) result }
+    ensures suits { IfOk result (λ next. suits txn.now.ops next ≡ true) }
     ensures call { OneCall S.tells S.content S.place S.calls S.faults store.old store.new result StepError.StoreFault }
 {
-    let op = txn.ops.only();
+    let op = only(txn);
     let name = Name::Doc(op.key.copy(alloc)?);
     let update = update_of(op).copy(alloc)?;
     let token = Token { id: txn.id, nonce };
@@ -332,6 +360,8 @@ pub fn finish<S: Store>(alloc: Global, store: &mut S, txn: &Waiting) -> Result<S
         WorksOn S.content S.place S.calls store.old store.new order order txn.now.id }
     ensures comes { IsTrue S.tells → ComesToStage (S.content store.new) txn.now result }
     ensures nearer { IfOk result (λ next. steps_left next ≡ 0) }
+    ensures uses { IsTrue S.tells → UsesUpTo (S.content store.old) (S.content store.new) Stage.Finish result }
+    ensures suits { IfOk result (λ next. suits txn.now.ops next ≡ true) }
     ensures call { OneCall S.tells S.content S.place S.calls S.faults store.old store.new result StepError.StoreFault }
 {
     let change = Edit::Move {
@@ -353,6 +383,8 @@ pub fn abort<S: Store>(alloc: Global, store: &mut S, txn: &Waiting) -> Result<St
         WorksOn S.content S.place S.calls store.old store.new order order txn.now.id }
     ensures comes { IsTrue S.tells → ComesToStage (S.content store.new) txn.now result }
     ensures nearer { IfOk result (λ next. steps_left next ≡ 0) }
+    ensures uses { IsTrue S.tells → UsesUpTo (S.content store.old) (S.content store.new) Stage.Abort result }
+    ensures suits { IfOk result (λ next. suits txn.now.ops next ≡ true) }
     ensures call { OneCall S.tells S.content S.place S.calls S.faults store.old store.new result StepError.StoreFault }
 {
     let change = Edit::Move {
@@ -365,12 +397,4 @@ pub fn abort<S: Store>(alloc: Global, store: &mut S, txn: &Waiting) -> Result<St
         Ok(()) => Ok(Stage::Settled(Outcome::Aborted)),
         Err(error) => Err(error),
     }
-}
-
-/// The update of an operation.
-fn update_of(op: &Op) -> &Update
-    ensures { Change.Update result.now ≡ op.now.change }
-{
-    let Change::Update(update) = &op.change;
-    update
 }

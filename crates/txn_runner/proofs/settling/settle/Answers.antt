@@ -2,6 +2,7 @@ use Rattle.std.proofs.Common.{Err, ap}
 use Rattle.std.proofs.lemmas.Result.{err_from_is_err_and}
 use Rattle.txn_runner.proofs.Works.{works_then, same_error}
 use Rattle.txn_runner.proofs.CallsMade.{call_after, rose_before}
+use Rattle.txn_runner.proofs.Numbers.{uses_then}
 use Rattle.txn_runner.proofs.settling.settle.Goals as goal
 
 pub returns-in_err-stage : goal.returns-in_err-stage
@@ -11,6 +12,7 @@ returns-in_err-stage g c =
       works = λ told. works_then _ _ _ _ _ _ _ _ _ _ (c.loop-stage.invariant.works told) (c.advance.ensures.works told);
       settled = λ told. tt;
       cause = λ told. (c.in_err-stage.ensures.comes told).cause;
+      uses = λ told. uses_then (c.loop-stage.invariant.uses told) (c.in_err-stage.ensures.uses told);
       calls = call_after _ _ _ _ _ _ _ _ _ _ c.loop-stage.invariant.made c.advance.ensures.call;
       fault = λ same. rose_before c.loop-stage.invariant.made.later (c.in_err-stage.ensures.call.fault (ap Err (same_error _ _ same)));
     })
@@ -19,5 +21,7 @@ pub loop-stage-preserved : goal.loop-stage-preserved
 loop-stage-preserved g c = record {
   works = λ told. works_then _ _ _ _ _ _ _ _ _ _ (c.loop-stage.invariant.works told) (c.advance.ensures.works told);
   worth = λ told. (c.in_ok-stage.ensures.comes told).worth;
+  uses = λ told. uses_then (c.loop-stage.invariant.uses told) (c.in_ok-stage.ensures.uses told);
   made = call_after _ _ _ _ _ _ _ _ _ _ c.loop-stage.invariant.made c.advance.ensures.call;
+  suits = c.in_ok-stage.ensures.suits;
 }

@@ -8,6 +8,8 @@ use Rattle.txn_runner.specs.Settling.{MayStop}
 use Rattle.txn_runner.proofs.Beside.{nonce_others}
 use Rattle.txn_runner.proofs.Stages.{draw_quietly, draw_ok, draw_err}
 use Rattle.txn_runner.proofs.Works.{works_edited, works_idly, comes_err, comes_edited}
+use Rattle.txn_runner.proofs.Numbers.{uses_within, uses_same, uses_made, uses_draw}
+use Rattle.std.proofs.Common.{arith}
 use Rattle.txn_runner.proofs.steps.draw.Goals as goal
 
 pub returns-in_err-drawn-clause-works : goal.returns-in_err-drawn-clause-works
@@ -34,3 +36,14 @@ returns-clause-comes g c = λ told.
     let made = c.in_ok-drawn.ensures.made told in
     comes_edited _ _ _ _ made
     (draw_ok _ _ (c.requires.worth told) c.in_ok-drawn.drawn.hit c.in_ok-drawn.drawn.cell _ (c.in_ok-drawn.ensures.hit told) (subst (λ (x : Content). c.in_ok-drawn.drawn.cell ≡ get x name.Nonce) made (c.in_ok-drawn.ensures.after told)) (sym (rw c.counter_in.ensures at c.in_ok-nonce.ensures)))
+
+pub returns-in_err-drawn-clause-uses : goal.returns-in_err-drawn-clause-uses
+returns-in_err-drawn-clause-uses g c = λ told. uses_within (uses_same _ _ (c.in_err-drawn.ensures.left told)) (omega arith) (omega arith)
+
+pub returns-in_err-nonce-clause-uses : goal.returns-in_err-nonce-clause-uses
+returns-in_err-nonce-clause-uses g c =
+    let p = err_from_is_err_and c.from_residual-in_err-nonce.result c.from_residual-in_err-nonce.ensures.1 in
+    λ told. rw (p.1) (uses_within (uses_made (c.in_ok-drawn.ensures.made told) (uses_draw _)) (omega arith) (omega arith))
+
+pub returns-clause-uses : goal.returns-clause-uses
+returns-clause-uses g c = λ told. uses_within (uses_made (c.in_ok-drawn.ensures.made told) (uses_draw _)) (omega arith) (omega arith)

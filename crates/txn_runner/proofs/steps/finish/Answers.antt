@@ -4,6 +4,8 @@ use Rattle.store_trait.specs.declared.edit.Edit.TheVariants as edit
 use Rattle.txn_runner.proofs.Beside.{record_others}
 use Rattle.txn_runner.proofs.Works.{works_edited, works_idly, comes_edited, comes_to_nothing}
 use Rattle.txn_runner.proofs.Stages.{finish_hits, finish_quietly, finish_worth}
+use Rattle.txn_runner.proofs.Numbers.{uses_within, uses_same, uses_made, uses_record}
+use Rattle.std.proofs.Common.{arith}
 use Rattle.txn_runner.proofs.steps.finish.Goals as goal
 
 pub returns-in-Ok-clause-works : goal.returns-in-Ok-clause-works
@@ -20,3 +22,9 @@ returns-in-Err-clause-works g c = λ told order.
 
 pub returns-in-Err-clause-comes : goal.returns-in-Err-clause-comes
 returns-in-Err-clause-comes g c = λ told. comes_to_nothing _ _ _ (c.in-Err.ensures.never told (finish_hits _ _ (c.requires.worth told)))
+
+pub returns-in-Ok-clause-uses : goal.returns-in-Ok-clause-uses
+returns-in-Ok-clause-uses g c = λ told. uses_within (uses_made (c.in-Ok.ensures.made told) (uses_record _ _ (edit.Move state.Applying state.Applied None None))) (omega arith) (omega arith)
+
+pub returns-in-Err-clause-uses : goal.returns-in-Err-clause-uses
+returns-in-Err-clause-uses g c = λ told. uses_within (uses_same _ _ (c.in-Err.ensures.left told (finish_hits _ _ (c.requires.worth told)))) (omega arith) (omega arith)

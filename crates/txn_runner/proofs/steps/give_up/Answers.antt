@@ -4,6 +4,8 @@ use Rattle.store_trait.specs.declared.edit.Edit.TheVariants as edit
 use Rattle.txn_runner.proofs.Beside.{record_others}
 use Rattle.txn_runner.proofs.Works.{works_idly, works_given_up, comes_edited, comes_to_nothing}
 use Rattle.txn_runner.proofs.Stages.{apply_hits, give_up_aborts, give_up_worth}
+use Rattle.txn_runner.proofs.Numbers.{uses_within, uses_same, uses_made, uses_record}
+use Rattle.std.proofs.Common.{arith}
 use Rattle.txn_runner.proofs.steps.give_up.Goals as goal
 
 pub returns-in-Ok-push-clause-works : goal.returns-in-Ok-push-clause-works
@@ -19,3 +21,9 @@ returns-in-Err-clause-works g c = λ told.
 
 pub returns-in-Err-clause-comes : goal.returns-in-Err-clause-comes
 returns-in-Err-clause-comes g c = λ told. comes_to_nothing _ _ _ (c.in-Err.ensures.never told (apply_hits _ _ c.args.nonce c.args.revno false (c.requires.worth told) state.Aborting None))
+
+pub returns-in-Ok-push-clause-uses : goal.returns-in-Ok-push-clause-uses
+returns-in-Ok-push-clause-uses g c = λ told. uses_within (uses_made (c.in-Ok.ensures.made told) (uses_record _ _ (edit.Move state.Prepared state.Aborting None None))) (omega arith) (omega arith)
+
+pub returns-in-Err-clause-uses : goal.returns-in-Err-clause-uses
+returns-in-Err-clause-uses g c = λ told. uses_within (uses_same _ _ (c.in-Err.ensures.left told (apply_hits _ _ c.args.nonce c.args.revno false (c.requires.worth told) state.Aborting None))) (omega arith) (omega arith)

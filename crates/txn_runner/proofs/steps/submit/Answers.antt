@@ -6,6 +6,7 @@ use Rattle.txn_runner.proofs.Submitting.{submit_quietly, submit_calm, submit_hit
 use Rattle.std.proofs.Common.{⊎_elim}
 use Rattle.txn_runner.specs.Settling.{preparing_record}
 use Rattle.txn_runner.specs.Calm.{IsCalm}
+use Rattle.txn_runner.proofs.Numbers.{uses_same, uses_made, uses_record}
 use Rattle.txn_runner.proofs.steps.submit.Goals as goal
 
 pub returns-clause-works : goal.returns-clause-works
@@ -29,3 +30,10 @@ returns-clause-stands g c = λ told.
     let calm = c.requires.calm told in
     let fresh = c.requires.fresh told in
     made_stands c.may_hit.result _ _ _ _ (rw c.in_ok-rec.ensures at (c.may_hit.ensures.hit told)) (submit_hits _ calm c.args.txn.now fresh) (rw c.in_ok-rec.ensures at (c.may_hit.ensures.made told)) (submit_stands _ calm c.args.txn.now fresh)
+
+pub returns-clause-uses : goal.returns-clause-uses
+returns-clause-uses g c = λ told.
+    ⊎_elim
+    (λ made. uses_made made (uses_record _ _ (edit.InsertRecord (preparing_record c.args.txn.now))))
+    (λ same. uses_same _ _ same)
+    (made_or_left c.may_hit.result _ _ _ (rw c.in_ok-rec.ensures at (c.may_hit.ensures.made told)) (c.may_hit.ensures.left told))
