@@ -1,26 +1,16 @@
 -- The chain that begins where the owners stand: all of it is still to be done, and each owner stands on it.
-use Rattle.std.proofs.Common.{◌≡◌, ℕ, ◌≤◌, le_trans, le_refl, le_of_eq, le_of_lt, Bool, true, false, ◌&&◌, ◌||◌, Option, Some, None, List, [], ◌∷◌, inl, inr, sym, ap, ◌∙◌, refl, subst, unsigned_abs, ℤ, pos, ◌+ℤ◌, int_eq, nat_le, unwrap_or, option_map, if◌then◌else◌, arith}
+use Rattle.std.proofs.Common.{◌≡◌, ℕ, ◌≤◌, le_trans, le_of_eq, Bool, true, false, ◌&&◌, ◌||◌, Option, Some, None, List, [], ◌∷◌, inl, inr, sym, ap, ◌∙◌, refl, subst, unsigned_abs, ℤ, int_eq, nat_le, unwrap_or, option_map, if◌then◌else◌, arith}
 use Rattle.std.proofs.lemmas.Bool.{and_parts}
 use Rattle.std.proofs.lemmas.Bool.Decides.{Decides-int_eq, nat_tests}
 use Rattle.std.proofs.lemmas.Option.{same_Some}
-use Rattle.txn_record.specs.Revnos.{same_key, follows, first_on, is_on_chain, is_present, number_after}
+use Rattle.txn_record.specs.Revnos.{same_key, follows, first_on, is_on_chain, number_after}
 use Rattle.txn_record.specs.declared.key.Key.{Key}
-use Rattle.txn_record.specs.declared.op.Change.{Change}
-use Rattle.txn_record.specs.declared.op.Change.TheVariants.{Update}
 use Rattle.txn_record.specs.declared.op.Op.{Op}
 use Rattle.store_trait.specs.Meaning.{not_done}
 use Rattle.store_trait.specs.View.{View, IsOn, held_number, epoch_at}
-use Rattle.store_laws.proofs.Owning.{next_above}
+use Rattle.store_laws.proofs.NumberAfter.{after_above}
 use Rattle.store_laws.proofs.Runs.{same_key-equal, same_key-itself}
 use Rattle.store_laws.specs.Chains.{IsChainFrom}
-
--- a change leaves no lower number
-pub after_above : (ch : Change) (revno : ℤ) → unsigned_abs revno ≤ unsigned_abs (number_after ch revno)
-after_above (Update update) revno = by (is_present revno) refl
-  where
-    by : (b : Bool) → is_present revno ≡ b → unsigned_abs revno ≤ unsigned_abs (if b then revno +ℤ pos 1 else revno)
-    by true e = le_of_lt (next_above revno e)
-    by false e = le_refl _
 
 -- the first number on each key is no less than its floor
 abbrev pub FirstAbove : (Key → ℕ) → List Op → List ℤ → Type 0

@@ -1,18 +1,19 @@
--- An applying record closes once its operation has passed.
-use Rattle.std.proofs.Common.{◌≡◌, ℕ, ℤ, ◌≤◌, lt_irrefl, lt_of_lt_of_le, Bool, true, false, Option, Some, None, List, [], ◌∷◌, inl, inr, ⊎_elim, sym, ap, ◌∙◌, refl, subst, unsigned_abs, unwrap_or, true≢false, option_map, ◌&&◌, is_some, nat_le, arith, if◌then◌else◌}
+-- An applying record closes once its operations have passed.
+use Rattle.std.proofs.Common.{◌≡◌, ℕ, ℤ, ◌≤◌, ◌+◌, le_refl, le_trans, le_antisymm, lt_irrefl, lt_of_lt_of_le, Bool, true, false, Option, Some, None, List, [], ◌∷◌, ◌⊎◌, inl, inr, ⊎_elim, sym, ap, ◌∙◌, refl, subst, unsigned_abs, unwrap_or, true≢false, option_map, ◌&&◌, is_some, nat_le, arith, if◌then◌else◌}
 use Rattle.std.proofs.lemmas.Bool.{and_parts}
 use Rattle.std.proofs.lemmas.Option.{same_Some}
 use Rattle.std.specs.Prelude.{option_to_list}
 use Rattle.std.specs.FinMap.{get, insert}
-use Rattle.txn_record.specs.Revnos.{is_present, is_on_chain, follows, stays_within}
+use Rattle.txn_record.specs.Revnos.{same_key, is_present, has_effect, number_after, is_on_chain, follows, stays_within}
 use Rattle.txn_record.specs.States.{is_chosen_state}
 use Rattle.txn_record.specs.declared.id.TxnId.{TxnId}
 use Rattle.txn_record.specs.declared.key.Key.{Key}
+use Rattle.txn_record.specs.declared.op.Change.{Change}
 use Rattle.txn_record.specs.declared.op.Op.{Op}
 use Rattle.txn_record.specs.declared.record.Record.{Record}
 use Rattle.txn_record.specs.declared.state.State.TheVariants as state
 use Rattle.store_trait.specs.Contents.{Content}
-use Rattle.store_trait.specs.Done.{HasPassed, AllPassed}
+use Rattle.store_trait.specs.Done.{HasPassed, AllPassed, progress}
 use Rattle.store_trait.specs.Edits.{moved, edited}
 use Rattle.store_trait.specs.Meaning.{pending_of, not_done}
 use Rattle.store_trait.specs.Names.{same_state}
@@ -32,38 +33,72 @@ use Rattle.store_laws.proofs.RecordEdits.{idle, settled_step, settled_already, s
 use Rattle.store_laws.proofs.KindsOfMove.{close_step}
 use Rattle.store_laws.proofs.Looks.{record_looks}
 use Rattle.store_laws.proofs.Misses.{quiet_itself, by_move}
-use Rattle.store_laws.proofs.Inherits.{at_on, chain_has}
-use Rattle.store_laws.proofs.Taken.{absent_on, first_absent}
+use Rattle.store_laws.proofs.ChainOrder.{same_on_chain}
+use Rattle.store_laws.proofs.Inherits.{First, head_has, tail_here, tail_away, at_on, at_found, chain_has}
+use Rattle.store_laws.proofs.NumberAfter.{after_above, after_none, after_rises, idle_body}
+use Rattle.store_laws.proofs.Runs.{IsAmong, run_on, run_on-idle, same_key-equal}
 use Rattle.store_laws.specs.Chains.{IsAt}
 use Rattle.std.proofs.lemmas.Bool.Decides.{nat_tests}
 use Rattle.store_laws.proofs.Orderly.{orderly}
-use Rattle.store_laws.proofs.Owning.{no_body}
+use Rattle.store_laws.proofs.Owning.{held_agrees}
 use Rattle.store_laws.proofs.Views.{applying_at}
 
--- What is still to be done at a key is an operation there, at a number that its owner isn't past.
+-- What is still to be done is an operation at a number that its key's owner isn't past.
 
-record Waiting (view : View) (key : Key) (ops : List Op) (revnos : List ℤ) : Type 0 where
-  op : Op
+record Waiting (view : View) (op : Op) (ops : List Op) (revnos : List ℤ) : Type 0 where
   revno : ℤ
   at : IsAt op revno ops revnos
-  same : op.key ≡ key
   reached : epoch_at view op.key ≤ unsigned_abs revno
 
 test_le : (a b : ℕ) → nat_le a b ≡ true → a ≤ b
 test_le a b e = grind (arith, nat_tests)
 
-waiting : (view : View) (key : Key) (ops : List Op) (revnos : List ℤ) → IsOn key (not_done view ops revnos) → Waiting view key ops revnos
-waiting view key [] revnos on = absurd on
-waiting view key (o ∷ ops) [] on = absurd on
-waiting view key (o ∷ ops) (x ∷ revnos) on = by (nat_le (epoch_at view o.key) (unsigned_abs x)) refl on (waiting view key ops revnos)
+waiting : (view : View) (op : Op) (ops : List Op) (revnos : List ℤ) → IsAmong op (not_done view ops revnos) → Waiting view op ops revnos
+waiting view op [] revnos among = absurd among
+waiting view op (o ∷ ops) [] among = absurd among
+waiting view op (o ∷ ops) (x ∷ revnos) among = by (nat_le (epoch_at view o.key) (unsigned_abs x)) refl among (waiting view op ops revnos)
   where
-    shift : Waiting view key ops revnos → Waiting view key (o ∷ ops) (x ∷ revnos)
-    shift w = record { op = w.op; revno = w.revno; at = inr w.at; same = w.same; reached = w.reached }
+    shift : Waiting view op ops revnos → Waiting view op (o ∷ ops) (x ∷ revnos)
+    shift w = record { revno = w.revno; at = inr w.at; reached = w.reached }
 
-    by : (b : Bool) → nat_le (epoch_at view o.key) (unsigned_abs x) ≡ b → IsOn key (if b then o ∷ not_done view ops revnos else not_done view ops revnos) → (IsOn key (not_done view ops revnos) → Waiting view key ops revnos) → Waiting view key (o ∷ ops) (x ∷ revnos)
-    by true e (inl q) rest = record { op = o; revno = x; at = inl (refl, refl); same = q; reached = test_le _ _ e }
+    by : (b : Bool) → nat_le (epoch_at view o.key) (unsigned_abs x) ≡ b → IsAmong op (if b then o ∷ not_done view ops revnos else not_done view ops revnos) → (IsAmong op (not_done view ops revnos) → Waiting view op ops revnos)
+        → Waiting view op (o ∷ ops) (x ∷ revnos)
+    by true e (inl q) rest = record { revno = x; at = inl (q, refl); reached = subst (λ (p : Op). epoch_at view p.key ≤ unsigned_abs x) q (test_le _ _ e) }
     by true e (inr h) rest = shift (rest h)
     by false e h rest = shift (rest h)
+
+-- Operations on a key that do nothing from a number on: none of them is at a greater one.
+
+module _ (key : Key) (limit : ℕ) where
+  abbrev Idle : List Op → List ℤ → Type 0
+  Idle ops revnos = (op : Op) (x : ℤ) → IsAt op x ops revnos → op.key ≡ key → limit ≤ unsigned_abs x → has_effect op.change x ≡ false
+
+  less_or_reached : (a b : ℕ) → a ≤ b → (a + 1 ≤ b) ⊎ (b ≤ a)
+  less_or_reached a b le = grind arith
+
+  stays_below : (ch : Change) (x : ℤ) → unsigned_abs x ≤ limit → (limit ≤ unsigned_abs x → has_effect ch x ≡ false) → unsigned_abs (number_after ch x) ≤ limit
+  stays_below ch x below idle = ⊎_elim
+      (λ less. ⊎_elim
+      (λ stays. subst (λ (n : ℤ). unsigned_abs n ≤ limit) (sym stays) below)
+      (λ rises. subst (λ (n : ℕ). n ≤ limit) (sym rises) less)
+      (after_rises ch x))
+      (λ reached. subst (λ (n : ℤ). unsigned_abs n ≤ limit) (sym (after_none ch x (idle reached))) below)
+      (less_or_reached (unsigned_abs x) limit below)
+
+  below_limit : (ops : List Op) (revnos : List ℤ) → follows ops revnos ≡ true → First key (λ m. unsigned_abs m ≤ limit) ops revnos → Idle ops revnos → (op : Op) (x : ℤ) → IsAt op x ops revnos → op.key ≡ key → unsigned_abs x ≤ limit
+  below_limit [] revnos chain first idle op x at on_key = absurd at
+  below_limit (o ∷ ops) [] chain first idle op x at on_key = absurd at
+  below_limit (o ∷ ops) (y ∷ revnos) chain first idle op x (inl here) on_key =
+      subst (λ (n : ℤ). unsigned_abs n ≤ limit) here.1 (head_has key (λ m. unsigned_abs m ≤ limit) o ops y revnos (sym (ap (λ (p : Op). p.key) here.0 ∙ on_key)) first)
+  below_limit (o ∷ ops) (y ∷ revnos) chain first idle op x (inr later) on_key =
+      below_limit ops revnos (and_parts _ (follows ops revnos) chain).1 (by (same_key key o.key) refl) (λ p z at. idle p z (inr at)) op x later on_key
+    where
+      by : (b : Bool) → same_key key o.key ≡ b → First key (λ m. unsigned_abs m ≤ limit) ops revnos
+      by false e = tail_away key (λ m. unsigned_abs m ≤ limit) o ops y revnos e first
+      by true e =
+          let same = same_key-equal key o.key e in
+          tail_here key (λ m. unsigned_abs m ≤ limit) o ops y revnos chain same
+          (stays_below o.change y (head_has key (λ m. unsigned_abs m ≤ limit) o ops y revnos same first) (λ reached. idle o y (inl (refl, refl)) (sym same) reached))
 
 passed_at : (c : Content) (op : Op) (revno : ℤ) (ops : List Op) (revnos : List ℤ) → AllPassed c ops revnos → IsAt op revno ops revnos → HasPassed c op revno
 passed_at c op revno [] revnos all at = absurd at
@@ -86,30 +121,48 @@ module _ (c : Content) (s : IsSound c) (id : TxnId) (was : Record) (there : reco
         (and_parts (follows was.ops numbers) (stays_within was.ops numbers)
         (sym (ap (λ (o : Option (List ℤ)). unwrap_or (option_map (λ (l : List ℤ). follows was.ops l && stays_within was.ops l) o) true) numbered) ∙ (and_parts _ _ (stored_numbers c id was s there)).1)).0
 
-    -- an operation at a number below 0 finds no document
-    absent : (op : Op) (revno : ℤ) → IsAt op revno was.ops numbers → is_present revno ≡ false → body_in ((look c).held_at op.key) ≡ None
-    absent op revno at e =
-        let number = held_number ((look c).held_at op.key) in
-        let on_chain : is_on_chain op.key number was.ops numbers ≡ true =
-        sym (ap (λ (o : Option (List ℤ)). is_on_chain op.key number was.ops (unwrap_or o [])) numbered) ∙ (s.on_chain id was there (ap (same_state state.Applying) from)).on_chain op.key (at_on op revno was.ops numbers at) in
-        no_body c s op.key (chain_has op.key (λ m. is_present m ≡ false) absent_on number was.ops numbers in_turn (first_absent op revno was.ops numbers in_turn at e) on_chain)
+    -- the number of a key's owner
+    abbrev owner : Key → ℤ
+    owner key = held_number ((look c).held_at key)
 
-    -- what it still has to do finds no document
-    missing : (key : Key) → IsOn key (pending_of (look c) was) → OnlyApplies (look c) id key × (body_in ((look c).held_at key) ≡ None)
-    missing key on =
-        let w = waiting (look c) key was.ops numbers (subst (IsOn key) (pending_of-applying (look c) was was.ops numbers from refl numbered) on) in (
-          only key (on_pending (look c) key was on).1,
-          subst (λ (k : Key). body_in ((look c).held_at k) ≡ None) w.same (⊎_elim
-              (λ e. absent w.op w.revno w.at e)
-              (λ less. absurd (lt_irrefl _ (lt_of_lt_of_le (lt_of_lt_of_le less (progress_epoch c w.op.key)) w.reached)))
-              (passed_at c w.op w.revno was.ops numbers passed w.at)),
-        )
+    owner_on_chain : (key : Key) → IsOn key was.ops → is_on_chain key (owner key) was.ops numbers ≡ true
+    owner_on_chain key on =
+        sym (ap (λ (o : Option (List ℤ)). is_on_chain key (owner key) was.ops (unwrap_or o [])) numbered) ∙ (s.on_chain id was there (ap (same_state state.Applying) from)).on_chain key on
+
+    -- an operation that its key's owner isn't past does nothing
+    idle_from : (key : Key) → Idle key (unsigned_abs (owner key)) was.ops numbers
+    idle_from key op x at on_key reached = ⊎_elim
+        (λ e. e)
+        (λ less. absurd (lt_irrefl _ (lt_of_lt_of_le (lt_of_lt_of_le less (subst (λ (k : Key). progress c op.key ≤ epoch_at (look c) k) on_key (progress_epoch c op.key))) reached)))
+        (passed_at c op x was.ops numbers passed at)
+
+    -- its number is the owner's
+    at_owner : (op : Op) (x : ℤ) → IsAt op x was.ops numbers → epoch_at (look c) op.key ≤ unsigned_abs x → x ≡ owner op.key
+    at_owner op x at reached =
+        let on = at_on op x was.ops numbers at in
+        let limit = unsigned_abs (owner op.key) in
+        let first : First op.key (λ m. unsigned_abs m ≤ limit) was.ops numbers =
+        λ number found. chain_has op.key (λ m. unsigned_abs number ≤ unsigned_abs m) (λ ch m le. le_trans le (after_above ch m)) (owner op.key) was.ops numbers in_turn
+        (λ other q. subst (λ (n : ℤ). unsigned_abs number ≤ unsigned_abs n) (same_Some number other (sym found ∙ q)) (le_refl _)) (owner_on_chain op.key on) in
+        same_on_chain op.key x (owner op.key) was.ops numbers in_turn (at_found op x was.ops numbers at) (owner_on_chain op.key on)
+        (le_antisymm (below_limit op.key limit was.ops numbers in_turn first (idle_from op.key) op x at refl) reached)
+
+    -- so it leaves the body
+    idles : (key : Key) → IsOn key (pending_of (look c) was) → OnlyApplies (look c) id key × (run_on key (pending_of (look c) was) (body_in ((look c).held_at key)) ≡ body_in ((look c).held_at key))
+    idles key on = (
+      only key (on_pending (look c) key was on).1,
+      run_on-idle key (pending_of (look c) was) _ (λ op among on_key.
+          let w = waiting (look c) op was.ops numbers (subst (IsAmong op) (pending_of-applying (look c) was was.ops numbers from refl numbered) among) in
+          let number = at_owner op w.revno w.at w.reached ∙ ap owner on_key in
+          idle_body op.change w.revno (body_in ((look c).held_at key)) (held_agrees c s key ∙ ap is_present (sym number))
+          (idle_from op.key op w.revno w.at refl w.reached)),
+    )
 
     closed : IsQuiet c (insert c (name.Record id) (cell.Record (moved state.Applied None None was)))
     unfolding look
     closed = record {
       step = settled_step c id state.Applying state.Applied was s there from refl refl refl refl (close_step id was (orderly c s) (record_looks c id rec) there from) (done_put c id rec all_passed);
-      means = meaning-closed c id s.kinds was there rec (record_looks c id rec).held (idle c rec refl) missing;
+      means = meaning-closed c id s.kinds was there rec (record_looks c id rec).held (idle c rec refl) idles;
       none = λ at. decided_by-put c at id rec s.kinds ∙ ap option_to_list (settled_already c id was rec s there refl (ap is_chosen_state from) at);
     }
       where

@@ -1,6 +1,6 @@
 -- The two steps that matter to the meaning: a ready record that becomes applying turns it into the
 -- effect of its operations, and an applying record's update leaves it.
-use Rattle.std.proofs.Common.{◌≡◌, ◌≢◌, Bool, true, false, Option, Some, None, List, [], ◌∷◌, ◌++◌, ◌⊎◌, inl, inr, sym, ap, ◌∙◌, refl, subst, if◌then◌else◌, append-nil}
+use Rattle.std.proofs.Common.{◌≡◌, ◌≢◌, Bool, true, false, Option, Some, List, [], ◌∷◌, ◌++◌, ◌⊎◌, inl, inr, sym, ap, ◌∙◌, refl, subst, if◌then◌else◌, append-nil}
 use Rattle.std.specs.Prelude.{option_to_list}
 use Rattle.std.specs.FinMap.{get, insert}
 use Rattle.std.specs.List.{flat_map}
@@ -20,8 +20,9 @@ use Rattle.store_laws.proofs.Bodies.{body_in}
 use Rattle.store_laws.proofs.Idle.{NoneApplies, OnlyApplies, is_on, idle-none, idle-others, pending-at}
 use Rattle.store_laws.proofs.Meanings.{get-meaning, pending-same, flat_map-append}
 use Rattle.store_laws.proofs.Records.{HasKinds, IsRecordSplit, all_standing, record_split}
-use Rattle.store_laws.proofs.Runs.{run_on, run_on-append, run_on-away, run_on-none, get-effect, same_docs, same_key-itself, same_key-equal, same_key-other}
+use Rattle.store_laws.proofs.Runs.{run_on, run_on-append, run_on-away, get-effect, same_docs, same_key-itself, same_key-equal, same_key-other}
 use Rattle.store_laws.proofs.Taken.{Taken}
+use Rattle.store_laws.proofs.Thinned.{thinned_away, thinned_run}
 use Rattle.store_laws.proofs.Shapes.{SameHeld, HeldElsewhere}
 
 -- on a key of no applying record the meaning is what the owner holds
@@ -87,31 +88,35 @@ module _ (c : Content) (id : TxnId) (kinds : HasKinds c) (old : Record) (there :
     meaning-applied none = same_docs _ _ (λ key. body_now key ∙ at_key none key (is_on key rec.ops) ∙ sym (get-effect key rec.ops (meaning c)))
 
   module _ (rec : Record) (same : SameHeld (look c) (look (insert c (name.Record id) (cell.Record rec)))) (stops : pending_of (look c) rec ≡ []) where
+    -- what it has to do on a key changes nothing there, and no other record does
+    abbrev Idles : Key → Type 0
+    Idles key = OnlyApplies (look c) id key × (run_on key (pending_of (look c) old) (body_in ((look c).held_at key)) ≡ body_in ((look c).held_at key))
+
     left_out : (key : Key) → IsOn key (pending_of (look c) old) ⊎ (IsOn key (pending_of (look c) old) → ⊥)
-        → ((key : Key) → IsOn key (pending_of (look c) old) → OnlyApplies (look c) id key × (body_in ((look c).held_at key) ≡ None))
+        → ((key : Key) → IsOn key (pending_of (look c) old) → Idles key)
         → let s = record_split c kinds id rec in
         let f = flat_map (pending_of (look c)) in
         run_on key (f s.pre ++ ([] ++ f s.post)) (body_in ((look c).held_at key)) ≡ run_on key (f s.pre ++ (pending_of (look c) old ++ f s.post)) (body_in ((look c).held_at key))
-    left_out key (inr off) missing =
+    left_out key (inr off) idles =
         let s = record_split c kinds id rec in
         let f = flat_map (pending_of (look c)) in
         between key (f s.pre) [] (f s.post) _ ∙ ap (run_on key (f s.post)) (sym (run_on-away key (pending_of (look c) old) _ off)) ∙ sym (between key (f s.pre) (pending_of (look c) old) (f s.post) _)
-    left_out key (inl on) missing =
+    left_out key (inl on) idles =
         let s = record_split c kinds id rec in
         let f = flat_map (pending_of (look c)) in
-        let (only, none) = missing key on in
-        let before : run_on key (f s.pre) (body_in ((look c).held_at key)) ≡ None = idle-others c id (look c) key only s.pre s.others_before _ ∙ none in
-        between key (f s.pre) [] (f s.post) _ ∙ ap (run_on key (f s.post)) (before ∙ sym (ap (run_on key (pending_of (look c) old)) before ∙ run_on-none key (pending_of (look c) old)))
+        let (only, stays) = idles key on in
+        let before : run_on key (f s.pre) (body_in ((look c).held_at key)) ≡ body_in ((look c).held_at key) = idle-others c id (look c) key only s.pre s.others_before _ in
+        between key (f s.pre) [] (f s.post) _ ∙ ap (run_on key (f s.post)) (before ∙ sym (ap (run_on key (pending_of (look c) old)) before ∙ stays))
         ∙ sym (between key (f s.pre) (pending_of (look c) old) (f s.post) _)
 
-    -- a record that had to do nothing but updates that find no document is put as one that has nothing to do
-    pub meaning-closed : ((key : Key) → IsOn key (pending_of (look c) old) → OnlyApplies (look c) id key × (body_in ((look c).held_at key) ≡ None)) → meaning (insert c (name.Record id) (cell.Record rec)) ≡ meaning c
-    meaning-closed missing = same_docs (meaning d) (meaning c) (λ key.
+    -- a record whose operations still to be done change nothing is put as one that has nothing to do
+    pub meaning-closed : ((key : Key) → IsOn key (pending_of (look c) old) → Idles key) → meaning (insert c (name.Record id) (cell.Record rec)) ≡ meaning c
+    meaning-closed idles = same_docs (meaning d) (meaning c) (λ key.
         get-meaning d key
         ∙ ap (run_on key (pending d)) (ap body_in (same.held key))
         ∙ ap (λ (ops : List Op). run_on key ops (body_in ((look c).held_at key)))
         (pending-same c d same (records d) ∙ ap f s.after ∙ flat_map-append (pending_of (look c)) s.pre (rec ∷ s.post) ∙ ap (λ (l : List Op). f s.pre ++ (l ++ f s.post)) stops)
-        ∙ left_out key (is_on key (pending_of (look c) old)) missing
+        ∙ left_out key (is_on key (pending_of (look c) old)) idles
         ∙ sym (get-meaning c key ∙ ap (λ (ops : List Op). run_on key ops (body_in ((look c).held_at key))) (splits_at rec (pending_of (look c)))))
       where
         d : Content
@@ -133,10 +138,10 @@ module _ (c : Content) (id : TxnId) (kinds : HasKinds c) (old : Record) (there :
         ∙ ap (run_on op.key ops) (idle-others c id view op.key only s.pre s.others_before body)
 
     -- an applying record's pending operation is done: nothing else pends on its key before it
-    pub meaning-updated : Taken op (pending_of (look c) old) (pending_of (look d) old)
+    pub meaning-updated : (found : Value) → body_in ((look c).held_at op.key) ≡ Some found → Taken op (pending_of (look c) old) (pending_of (look d) old)
         → body_in ((look d).held_at op.key) ≡ body_after op.change (body_in ((look c).held_at op.key))
         → meaning d ≡ meaning c
-    meaning-updated taken done = same_docs (meaning d) (meaning c) (λ key. by key (same_key key op.key) refl)
+    meaning-updated found there taken done = same_docs (meaning d) (meaning c) (λ key. by key (same_key key op.key) refl)
       where
         at_records : (key : Key) → get (meaning d) key ≡ run_on key (flat_map (pending_of (look d)) (records c)) (body_in ((look d).held_at key))
         at_records key = get-meaning d key ∙ ap (λ (l : List Record). run_on key (flat_map (pending_of (look d)) l) (body_in ((look d).held_at key))) recs
@@ -147,13 +152,16 @@ module _ (c : Content) (id : TxnId) (kinds : HasKinds c) (old : Record) (there :
         now : run_on op.key (pending_of (look d) old) (body_after op.change body) ≡ run_on op.key taken.post (body_after op.change body)
         now =
             ap (λ (l : List Op). run_on op.key l (body_after op.change body)) taken.after
-            ∙ run_on-append op.key taken.pre taken.post _ ∙ ap (run_on op.key taken.post) (run_on-away op.key taken.pre _ taken.away)
+            ∙ run_on-append op.key taken.kept taken.post _ ∙ ap (run_on op.key taken.post) (run_on-away op.key taken.kept _ (thinned_away op.key taken.all taken.kept taken.thins))
+
+        before : run_on op.key taken.all body ≡ body
+        before = ap (run_on op.key taken.all) there ∙ thinned_run op.key taken.all taken.kept found taken.thins ∙ sym there
 
         was : run_on op.key (pending_of (look c) old) body ≡ run_on op.key taken.post (body_after op.change body)
         was =
             ap (λ (l : List Op). run_on op.key l body) taken.before
-            ∙ run_on-append op.key taken.pre (op ∷ taken.post) _
-            ∙ ap (run_on op.key (op ∷ taken.post)) (run_on-away op.key taken.pre _ taken.away)
+            ∙ run_on-append op.key taken.all (op ∷ taken.post) _
+            ∙ ap (run_on op.key (op ∷ taken.post)) before
             ∙ ap (λ (b : Bool). run_on op.key taken.post (if b then body_after op.change body else body)) (same_key-itself op.key)
 
         here : get (meaning d) op.key ≡ get (meaning c) op.key

@@ -25,7 +25,7 @@ tested_fits ops m n agree tested =
     sym (changes_fit-agree ops m n agree) ∙ (and_parts (list_all (λ (op : Op). assertion_holds op.assert (get m op.key)) ops) (changes_fit ops m) tested).1
 
 -- one operation, seen at one key
-at_one : (key : Key) (op : Op) (docs : Docs) → get (effect_of op docs) key ≡ (if same_key key op.key then body_after op.change (get docs key) else get docs key)
+pub at_one : (key : Key) (op : Op) (docs : Docs) → get (effect_of op docs) key ≡ (if same_key key op.key then body_after op.change (get docs key) else get docs key)
 at_one key op docs = get-effect key (op ∷ []) docs
 
 -- operations on two keys may change places

@@ -16,19 +16,19 @@ module _ (key : Key) (P : ℤ → Type 0) where
   abbrev pub First : List Op → List ℤ → Type 0
   First ops revnos = (number : ℤ) → first_on key ops revnos ≡ Some number → P number
 
+  -- the head's number, where the head is on the key
+  pub head_has : (op : Op) (ops : List Op) (revno : ℤ) (revnos : List ℤ) → key ≡ op.key → First (op ∷ ops) (revno ∷ revnos) → P revno
+  head_has op ops revno revnos same first = first revno (ap (λ (k : Key). first_on k (op ∷ ops) (revno ∷ revnos)) same ∙ head_number op ops revno revnos)
+
+  -- the first number after a head on the key, where the number that the head leaves has it
+  pub tail_here : (op : Op) (ops : List Op) (revno : ℤ) (revnos : List ℤ) → follows (op ∷ ops) (revno ∷ revnos) ≡ true → key ≡ op.key → P (number_after op.change revno) → First ops revnos
+  tail_here op ops revno revnos chain same has number found =
+      subst P (in_turn (first_on op.key ops revnos) (number_after op.change revno) number (and_parts _ (follows ops revnos) chain).0 (ap (λ (k : Key). first_on k ops revnos) (sym same) ∙ found)) has
+
+  pub tail_away : (op : Op) (ops : List Op) (revno : ℤ) (revnos : List ℤ) → same_key key op.key ≡ false → First (op ∷ ops) (revno ∷ revnos) → First ops revnos
+  tail_away op ops revno revnos away first number found = first number (ap (λ (b : Bool). if b then Some revno else first_on key ops revnos) away ∙ found)
+
   module _ (hands_on : (ch : Change) (number : ℤ) → P number → P (number_after ch number)) where
-    -- the head's number, where the head is on the key
-    pub head_has : (op : Op) (ops : List Op) (revno : ℤ) (revnos : List ℤ) → key ≡ op.key → First (op ∷ ops) (revno ∷ revnos) → P revno
-    head_has op ops revno revnos same first = first revno (ap (λ (k : Key). first_on k (op ∷ ops) (revno ∷ revnos)) same ∙ head_number op ops revno revnos)
-
-    -- the first number after a head on the key, where the head's has it
-    pub tail_here : (op : Op) (ops : List Op) (revno : ℤ) (revnos : List ℤ) → follows (op ∷ ops) (revno ∷ revnos) ≡ true → key ≡ op.key → P (number_after op.change revno) → First ops revnos
-    tail_here op ops revno revnos chain same has number found =
-        subst P (in_turn (first_on op.key ops revnos) (number_after op.change revno) number (and_parts _ (follows ops revnos) chain).0 (ap (λ (k : Key). first_on k ops revnos) (sym same) ∙ found)) has
-
-    pub tail_away : (op : Op) (ops : List Op) (revno : ℤ) (revnos : List ℤ) → same_key key op.key ≡ false → First (op ∷ ops) (revno ∷ revnos) → First ops revnos
-    tail_away op ops revno revnos away first number found = first number (ap (λ (b : Bool). if b then Some revno else first_on key ops revnos) away ∙ found)
-
     pub tail_has : (op : Op) (ops : List Op) (revno : ℤ) (revnos : List ℤ) → follows (op ∷ ops) (revno ∷ revnos) ≡ true → First (op ∷ ops) (revno ∷ revnos) → First ops revnos
     tail_has op ops revno revnos chain first = by (same_key key op.key) refl
       where
@@ -79,6 +79,19 @@ at_leaves op revno (o ∷ ops) (r ∷ revnos) (inl here) =
     either true b = refl
     either false b = refl
 at_leaves op revno (o ∷ ops) (r ∷ revnos) (inr later) = or_else (same_key op.key o.key && (int_eq (number_after op.change revno) r || int_eq (number_after op.change revno) (number_after o.change r))) _ (at_leaves op revno ops revnos later)
+  where
+    or_else : (a b : Bool) → b ≡ true → (a || b) ≡ true
+    or_else true b e = refl
+    or_else false b e = e
+
+-- its number is on the chain
+pub at_found : (op : Op) (revno : ℤ) (ops : List Op) (revnos : List ℤ) → IsAt op revno ops revnos → is_on_chain op.key revno ops revnos ≡ true
+at_found op revno [] revnos at = absurd at
+at_found op revno (o ∷ ops) [] at = absurd at
+at_found op revno (o ∷ ops) (r ∷ revnos) (inl here) =
+    (λ i. (same_key op.key (here.0 i).key && (int_eq revno (here.1 i) || int_eq revno (number_after o.change r))) || is_on_chain op.key revno ops revnos)
+    ∙ (λ i. (same_key-itself op.key i && ((Decides-int_eq revno revno).1 refl i || int_eq revno (number_after o.change r))) || is_on_chain op.key revno ops revnos)
+at_found op revno (o ∷ ops) (r ∷ revnos) (inr later) = or_else (same_key op.key o.key && (int_eq revno r || int_eq revno (number_after o.change r))) _ (at_found op revno ops revnos later)
   where
     or_else : (a b : Bool) → b ≡ true → (a || b) ≡ true
     or_else true b e = refl

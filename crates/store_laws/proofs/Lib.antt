@@ -33,6 +33,7 @@ pub mod Fitting
 pub mod DecidingMoves
 pub mod Owning
 pub mod Updating
+pub mod Outdated
 pub mod UpdateEdits
 pub mod Placing
 pub mod Lost
@@ -52,6 +53,9 @@ pub mod Finding
 pub mod Graphs
 pub mod TrailTells
 pub mod Chains
+pub mod NumberAfter
+pub mod ChainOrder
+pub mod Thinned
 pub mod Inherits
 pub mod Taken
 pub mod OneOperation

@@ -7,8 +7,6 @@ use Rattle.txn_record.specs.Documents.{tests, change_fits, assertion_holds}
 use Rattle.txn_record.specs.Revnos.{is_within, number_after, first_on}
 use Rattle.txn_record.specs.declared.id.TxnId.{TxnId}
 use Rattle.txn_record.specs.declared.key.Key.{Key}
-use Rattle.txn_record.specs.declared.op.Assert.{Assert}
-use Rattle.txn_record.specs.declared.op.Assert.TheVariants.{Nothing}
 use Rattle.txn_record.specs.declared.op.Op.{Op}
 use Rattle.txn_record.specs.declared.record.Record.{Record}
 use Rattle.txn_record.specs.declared.state.State.TheVariants as state
@@ -31,18 +29,19 @@ use Rattle.store_laws.proofs.Runs.{same_key-itself}
 use Rattle.store_laws.specs.Chains.{IsChainFrom}
 use Rattle.store_laws.specs.Holding.{body_in}
 
-only_fit : (a : Assert) (body : Option Value) (fits : Bool) → ((assertion_holds a body && true) && (fits && true)) ≡ fits
-only_fit Nothing body true = refl
-only_fit Nothing body false = refl
+and_ends : (holds fits : Bool) → ((holds && true) && (fits && true)) ≡ (holds && fits)
+and_ends true true = refl
+and_ends true false = refl
+and_ends false fits = refl
 
 pub tests_one : (c : Content) (id : TxnId) (rec : Record) (op : Op) → IsSound c → record_at c id ≡ Some rec → rec.state ≡ state.Prepared → IsReady (look c) id → rec.ops ≡ op ∷ []
-    → tests rec.ops (meaning c) ≡ change_fits op.change (body_in ((look c).held_at op.key))
+    → tests rec.ops (meaning c) ≡ (assertion_holds op.assert (body_in ((look c).held_at op.key)) && change_fits op.change (body_in ((look c).held_at op.key)))
 tests_one c id rec op s there from ready one =
     let means : get (meaning c) op.key ≡ body_in ((look c).held_at op.key) =
     meaning-free c s.kinds op.key (free_keys c id rec s there from ready op.key (subst (IsOn op.key) (sym one) (inl refl))) in
     ap (λ (ops : List Op). tests ops (meaning c)) one
-    ∙ only_fit op.assert (get (meaning c) op.key) (change_fits op.change (get (meaning c) op.key))
-    ∙ ap (change_fits op.change) means
+    ∙ and_ends (assertion_holds op.assert (get (meaning c) op.key)) (change_fits op.change (get (meaning c) op.key))
+    ∙ ap (λ (found : Option Value). assertion_holds op.assert found && change_fits op.change found) means
 
 -- every owner's number is within the limits
 within_held : (doc : Option DocCell) (stash : Option StashCell) → ((d : DocCell) → doc ≡ Some d → is_within d.revno ≡ true) → ((e : StashCell) → stash ≡ Some e → is_within e.revno ≡ true)

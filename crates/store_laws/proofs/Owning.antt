@@ -1,5 +1,5 @@
 -- A document that owns its key, and goes on owning it at its next number.
-use Rattle.std.proofs.Common.{◌≡◌, ℕ, ℤ, pos, negsuc, ◌+ℤ◌, ◌<◌, ◌≤◌, Bool, true, false, cond, not, Option, Some, None, [], sym, ap, ◌∙◌, refl, unsigned_abs, nat_lt, arith, true≢false}
+use Rattle.std.proofs.Common.{◌≡◌, ℕ, ℤ, pos, negsuc, ◌+ℤ◌, ◌<◌, ◌≤◌, Bool, true, false, cond, not, Option, Some, None, is_some, [], sym, ap, ◌∙◌, refl, unsigned_abs, nat_lt, arith, true≢false}
 use Rattle.std.proofs.lemmas.Bool.{and_parts}
 use Rattle.std.proofs.lemmas.Bool.Decides.{nat_tests}
 use Rattle.std.proofs.lemmas.Option.{same_Some}
@@ -97,32 +97,47 @@ pub stash_below : (c : Content) → IsSound c → (key : Key) (entry : StashCell
 stash_below c s key entry there = not_true _ (and_parts (not (is_present entry.revno)) (is_within entry.revno) (s.numbers (name.Stash key) (cell.Stash entry) (stash_under c key entry there))).0
 
 -- an owner at a number of 0 or more is a document at that number
-doc_at_number : (doc : Option DocCell) (stash : Option StashCell) → ((entry : StashCell) → stash ≡ Some entry → is_present entry.revno ≡ false)
-    → is_present (held_number (owner_held doc stash)) ≡ true → (d : DocCell) × (doc ≡ Some d) × (held_number (owner_held doc stash) ≡ d.revno)
-doc_at_number None None below e = absurd (true≢false (sym e))
-doc_at_number None (Some entry) below e = absurd (true≢false (sym e ∙ below entry refl))
-doc_at_number (Some d) stash below e = (d, refl, ap held_number (owned_held d stash (owner_present d stash below e)))
+pub record OwnsAt (c : Content) (key : Key) (number : ℤ) : Type 0 where
+  pub doc : DocCell
+  pub there : doc_at c key ≡ Some doc
+  pub owns : owner_of (Some doc) (stash_at c key) ≡ side.Document
+  pub at : doc.revno ≡ number
 
-pub finds_doc : (c : Content) → IsSound c → (key : Key) → is_present (held_number ((look c).held_at key)) ≡ true → (d : DocCell) × (doc_at c key ≡ Some d) × (held_number ((look c).held_at key) ≡ d.revno)
+pub finds_doc : (c : Content) → IsSound c → (key : Key) → is_present (held_number ((look c).held_at key)) ≡ true → OwnsAt c key (held_number ((look c).held_at key))
 unfolding look
-finds_doc c s key e = doc_at_number (doc_at c key) (stash_at c key) (stash_below c s key) e
-
--- an owner below 0 holds no body
-body_at_number : (doc : Option DocCell) (stash : Option StashCell) → ((d : DocCell) → doc ≡ Some d → is_present d.revno ≡ true)
-    → is_present (held_number (owner_held doc stash)) ≡ false → body_in (owner_held doc stash) ≡ None
-body_at_number None None above e = refl
-body_at_number None (Some entry) above e = refl
-body_at_number (Some d) stash above e = by (owner_of (Some d) stash) e
+finds_doc c s key = by (doc_at c key) refl
   where
-    by : (side : Side) → is_present (held_number (by_side side (Number (negsuc 0)) (doc_held (Some d)) (stash_held stash))) ≡ false → body_in (by_side side (Number (negsuc 0)) (doc_held (Some d)) (stash_held stash)) ≡ None
-    by side.Neither e = refl
-    by side.Document e = absurd (true≢false (sym (above d refl) ∙ e))
-    by side.Stash e = entry_body stash
+    by : (found : Option DocCell) → doc_at c key ≡ found → is_present (held_number (owner_held (doc_at c key) (stash_at c key))) ≡ true → OwnsAt c key (held_number (owner_held (doc_at c key) (stash_at c key)))
+    by (Some d) e present =
+        let owns = owner_present d (stash_at c key) (stash_below c s key) (ap (λ (o : Option DocCell). is_present (held_number (owner_held o (stash_at c key)))) (sym e) ∙ present) in
+        record { doc = d; there = e; owns = owns; at = sym (ap (λ (o : Option DocCell). held_number (owner_held o (stash_at c key))) e ∙ ap held_number (owned_held d (stash_at c key) owns)) }
+    by None e present = absurd (true≢false (sym (ap (λ (o : Option DocCell). is_present (held_number (owner_held o (stash_at c key)))) (sym e) ∙ present) ∙ none (stash_at c key) (stash_below c s key)))
       where
-        entry_body : (stash : Option StashCell) → body_in (stash_held stash) ≡ None
-        entry_body None = refl
-        entry_body (Some entry) = refl
+        none : (stash : Option StashCell) → ((entry : StashCell) → stash ≡ Some entry → is_present entry.revno ≡ false) → is_present (held_number (owner_held None stash)) ≡ false
+        none None below = refl
+        none (Some entry) below = below entry refl
 
-pub no_body : (c : Content) → IsSound c → (key : Key) → is_present (held_number ((look c).held_at key)) ≡ false → body_in ((look c).held_at key) ≡ None
+-- an owner holds a body just where its number says so
+agree_at : (doc : Option DocCell) (stash : Option StashCell) → ((d : DocCell) → doc ≡ Some d → is_present d.revno ≡ true) → ((entry : StashCell) → stash ≡ Some entry → is_present entry.revno ≡ false)
+    → is_some (body_in (owner_held doc stash)) ≡ is_present (held_number (owner_held doc stash))
+agree_at doc stash above below = by (owner_of doc stash)
+  where
+    of_doc : (found : Option DocCell) → doc ≡ found → is_some (body_in (doc_held found)) ≡ is_present (held_number (doc_held found))
+    of_doc None e = refl
+    of_doc (Some d) e = sym (above d e)
+
+    of_stash : (found : Option StashCell) → stash ≡ found → is_some (body_in (stash_held found)) ≡ is_present (held_number (stash_held found))
+    of_stash None e = refl
+    of_stash (Some entry) e = sym (below entry e)
+
+    by : (side : Side) → is_some (body_in (by_side side (Number (negsuc 0)) (doc_held doc) (stash_held stash))) ≡ is_present (held_number (by_side side (Number (negsuc 0)) (doc_held doc) (stash_held stash)))
+    by side.Neither = refl
+    by side.Document = of_doc doc refl
+    by side.Stash = of_stash stash refl
+
+pub held_agrees : (c : Content) → IsSound c → (key : Key) → is_some (body_in ((look c).held_at key)) ≡ is_present (held_number ((look c).held_at key))
 unfolding look
-no_body c s key e = body_at_number (doc_at c key) (stash_at c key) (λ d found. (and_parts (is_present d.revno) (is_within d.revno) (s.numbers (name.Doc key) (cell.Doc d) (doc_under c key d found))).0) e
+held_agrees c s key =
+    agree_at (doc_at c key) (stash_at c key)
+    (λ d found. (and_parts (is_present d.revno) (is_within d.revno) (s.numbers (name.Doc key) (cell.Doc d) (doc_under c key d found))).0)
+    (stash_below c s key)

@@ -1,12 +1,14 @@
 -- What has passed: other steps keep it, and an update at its number changes nothing.
-use Rattle.std.proofs.Common.{◌≡◌, ℕ, ℤ, ◌<◌, lt_irrefl, true, false, Option, Some, List, ◌⊎◌, inl, inr, ⊎_elim, sym, ap, ◌∙◌, refl, subst, unsigned_abs, true≢false}
+use Rattle.std.proofs.Common.{◌≡◌, ℕ, ℤ, ◌<◌, lt_irrefl, true, false, Option, Some, List, [], ◌∷◌, ◌⊎◌, inl, inr, ⊎_elim, sym, ap, ◌∙◌, refl, subst, unsigned_abs, true≢false}
 use Rattle.std.proofs.lemmas.Option.{same_Some}
 use Rattle.std.proofs.lemmas.Bool.{and_parts}
 use Rattle.std.specs.FinMap.{get}
 use Rattle.doc_value.specs.declared.value.Value.{Value}
-use Rattle.txn_record.specs.Revnos.{is_present, is_within}
+use Rattle.txn_record.specs.Revnos.{is_present, is_within, has_effect}
 use Rattle.txn_record.specs.declared.id.Token.{Token}
 use Rattle.txn_record.specs.declared.id.TxnId.{TxnId}
+use Rattle.txn_record.specs.declared.op.Change.{Change}
+use Rattle.txn_record.specs.declared.op.Change.TheVariants.{Update}
 use Rattle.txn_record.specs.declared.op.Op.{Op}
 use Rattle.txn_record.specs.declared.record.Record.{Record}
 use Rattle.txn_record.specs.declared.state.State.{State}
@@ -44,17 +46,21 @@ applying_on c d step id rec now revnos there applies numbers after =
     let follows : may_follow state.Applying now.state ≡ true = sym (λ i. may_follow (applies i) (same i).state) ∙ still.goes.state in
     ⊎_elim (λ e. inl e) (λ e. inr (step.done.closes id rec now revnos there applies numbers after e)) (applying_goes now.state follows)
 
--- an update of an operation that has passed misses
-pub passed_misses : (c : Content) → IsSound c → (op : Op) (revno : ℤ) (z : Token) (update : Value) → HasPassed c op revno → edited c (name.Doc op.key) (edit.Update revno z update) ≡ c
-passed_misses c s op revno z update passed =
+-- the update of an operation that has passed misses
+pub passed_misses : (c : Content) → IsSound c → (op : Op) (revno : ℤ) (z : Token) (update : Value) → op.change ≡ Update update → HasPassed c op revno → edited c (name.Doc op.key) (edit.Update revno z update) ≡ c
+passed_misses c s op revno z update changes passed =
     by_update c op.key revno z update (λ d. d ≡ c) refl (λ doc body found at fit. absurd (⊎_elim (λ e. below doc found at e) (λ less. past doc found at less) passed)) (get c (name.Doc op.key)) refl
   where
-    below : (doc : DocCell) → doc_at c op.key ≡ Some doc → doc.revno ≡ revno → is_present revno ≡ false → ⊥
+    below : (doc : DocCell) → doc_at c op.key ≡ Some doc → doc.revno ≡ revno → has_effect op.change revno ≡ false → ⊥
     below doc found at e =
         let present = (and_parts (is_present doc.revno) (is_within doc.revno) (s.numbers (name.Doc op.key) (cell.Doc doc) (doc_under c op.key doc found))).0 in
-        true≢false (sym present ∙ ap is_present at ∙ e)
+        true≢false (sym present ∙ ap is_present at ∙ sym (ap (λ (ch : Change). has_effect ch revno) changes) ∙ e)
 
     past : (doc : DocCell) → doc_at c op.key ≡ Some doc → doc.revno ≡ revno → unsigned_abs revno < progress c op.key → ⊥
     past doc found at less =
         let number : progress c op.key ≡ unsigned_abs revno = ap (λ (d : Option DocCell). progress_of d (stash_at c op.key)) found ∙ ap unsigned_abs at in
         lt_irrefl _ (subst (λ (n : ℕ). unsigned_abs revno < n) number less)
+
+-- a transaction of one operation has passed with it
+pub one_passed : (c : Content) (ops : List Op) (op : Op) (revno : ℤ) → ops ≡ op ∷ [] → HasPassed c op revno → AllPassed c ops (revno ∷ [])
+one_passed c ops op revno one passed = subst (λ (l : List Op). AllPassed c l (revno ∷ [])) (sym one) (passed, tt)

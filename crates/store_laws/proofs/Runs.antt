@@ -1,5 +1,5 @@
 -- What a list of operations does to the body at one key.
-use Rattle.std.proofs.Common.{◌≡◌, ◌≢◌, Bool, true, false, cond, Option, None, List, [], ◌∷◌, ◌++◌, sym, ap, ◌∙◌, refl, subst, if◌then◌else◌, true≢false, inl, inr}
+use Rattle.std.proofs.Common.{◌≡◌, ◌≢◌, Bool, true, false, cond, Option, List, [], ◌∷◌, ◌++◌, sym, ap, ◌∙◌, refl, subst, if◌then◌else◌, true≢false, ◌⊎◌, inl, inr}
 use Rattle.std.specs.Cmp.{Equal-is}
 use Rattle.std.specs.FinMap.{get, same_map}
 use Rattle.std.specs.Ordering.{is_eq}
@@ -11,8 +11,6 @@ use Rattle.txn_record.specs.Documents.{Docs, effect, effect_of, body_after}
 use Rattle.txn_record.specs.Keys.{key_cmp}
 use Rattle.txn_record.specs.Revnos.{same_key}
 use Rattle.txn_record.specs.declared.key.Key.{Key}
-use Rattle.txn_record.specs.declared.op.Change.{Change}
-use Rattle.txn_record.specs.declared.op.Change.TheVariants.{Update}
 use Rattle.txn_record.specs.declared.op.Op.{Op}
 use Rattle.store_trait.specs.View.{IsOn}
 
@@ -31,6 +29,10 @@ same_key-apart j k apart = by (same_key j k) refl
 
 pub same_key-other : (j k : Key) → same_key j k ≡ false → j ≢ k
 same_key-other j k e q = true≢false (sym (subst (λ (i : Key). same_key j i ≡ true) q (same_key-itself j)) ∙ e)
+
+abbrev pub IsAmong : Op → List Op → Type 0
+IsAmong op [] = ⊥
+IsAmong op (o ∷ ops) = (o ≡ op) ⊎ IsAmong op ops
 
 -- the body at a key once operations have run
 abbrev pub run_on : Key → List Op → Option Value → Option Value
@@ -53,14 +55,14 @@ pub run_on-away : (key : Key) (ops : List Op) (body : Option Value) → (IsOn ke
 run_on-away key [] body away = refl
 run_on-away key (op ∷ ops) body away = rw (same_key-apart key op.key (λ q. away (inl (sym q)))) (run_on-away key ops body (λ on. away (inr on)))
 
-none_after : (b : Bool) (ch : Change) → (if b then body_after ch None else None) ≡ None
-none_after true (Update update) = refl
-none_after false ch = refl
-
--- updates do nothing where there is no document
-pub run_on-none : (key : Key) (ops : List Op) → run_on key ops None ≡ None
-run_on-none key [] = refl
-run_on-none key (op ∷ ops) = ap (run_on key ops) (none_after (same_key key op.key) op.change) ∙ run_on-none key ops
+-- where each operation on the key leaves the body
+pub run_on-idle : (key : Key) (ops : List Op) (body : Option Value) → ((op : Op) → IsAmong op ops → op.key ≡ key → body_after op.change body ≡ body) → run_on key ops body ≡ body
+run_on-idle key [] body leaves = refl
+run_on-idle key (op ∷ ops) body leaves = ap (run_on key ops) (by (same_key key op.key) refl) ∙ run_on-idle key ops body (λ o among. leaves o (inr among))
+  where
+    by : (b : Bool) → same_key key op.key ≡ b → (if b then body_after op.change body else body) ≡ body
+    by true e = leaves op (inl refl) (sym (same_key-equal key op.key e))
+    by false e = refl
 
 pub same_docs : (m n : Docs) → ((key : Key) → get m key ≡ get n key) → m ≡ n
 same_docs = same_map key_cmp_total key_cmp-IsAntisymmetric

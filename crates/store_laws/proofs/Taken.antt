@@ -1,59 +1,29 @@
--- What an update takes out of the operations that a record has still to do: just the one that it was of.
-use Rattle.std.proofs.Common.{◌≡◌, ◌≢◌, ℕ, ◌<◌, ◌≤◌, le_refl, le_trans, le_of_lt, lt_irrefl, lt_of_lt_of_le, Bool, true, false, List, [], ◌∷◌, ◌++◌, ◌⊎◌, inl, inr, sym, ap, ◌∙◌, refl, subst, unsigned_abs, ℤ, pos, ◌+ℤ◌, int_eq, nat_le, if◌then◌else◌, arith, true≢false}
+-- What an update takes out of the operations that a record has still to do: the one that it was of, and those before
+-- it on its key, which do nothing at its number.
+use Rattle.std.proofs.Common.{◌≡◌, ◌≢◌, ℕ, ◌<◌, ◌≤◌, ◌+◌, le_refl, le_trans, le_of_lt, lt_irrefl, lt_of_lt_of_le, Bool, true, false, List, [], ◌∷◌, ◌++◌, inl, inr, sym, ap, ◌∙◌, refl, subst, unsigned_abs, ℤ, int_eq, nat_le, if◌then◌else◌, arith, true≢false}
 use Rattle.std.proofs.lemmas.Bool.{and_parts}
 use Rattle.std.proofs.lemmas.Bool.Decides.{Decides-int_eq, nat_tests}
-use Rattle.std.proofs.lemmas.Option.{same_Some}
-use Rattle.txn_record.specs.Revnos.{same_key, follows, is_present, number_after}
+use Rattle.std.specs.Prelude.{Some}
+use Rattle.txn_record.specs.Revnos.{same_key, follows, is_present, has_effect, number_after}
 use Rattle.txn_record.specs.declared.key.Key.{Key}
 use Rattle.txn_record.specs.declared.op.Change.{Change}
-use Rattle.txn_record.specs.declared.op.Change.TheVariants.{Update}
 use Rattle.txn_record.specs.declared.op.Op.{Op}
 use Rattle.store_trait.specs.Meaning.{not_done}
-use Rattle.store_trait.specs.View.{View, Held, IsOn, held_number, epoch_at}
-use Rattle.store_laws.proofs.Chains.{after_above}
+use Rattle.store_trait.specs.View.{View, Held, held_number, epoch_at}
+use Rattle.store_laws.proofs.ChainOrder.{IsFrom, from_on}
 use Rattle.store_laws.proofs.Inherits.{First, head_has, tail_here, tail_has, at_has}
-use Rattle.store_laws.proofs.Owning.{next_above, next_present, present_number}
+use Rattle.store_laws.proofs.NumberAfter.{after_above, after_effect, idle_body, idle_fits}
 use Rattle.store_laws.proofs.Runs.{same_key-equal, same_key-other}
+use Rattle.store_laws.proofs.Thinned.{LeavesDoc, Thinned}
 use Rattle.store_laws.specs.Chains.{IsAt}
 
 pub record Taken (op : Op) (was is : List Op) : Type 0 where
-  pub pre : List Op
+  pub all : List Op
+  pub kept : List Op
   pub post : List Op
-  pub before : was ≡ pre ++ op ∷ post
-  pub after : is ≡ pre ++ post
-  pub away : IsOn op.key pre → ⊥
-
-pub after_present : (ch : Change) (n : ℤ) → is_present n ≡ true → number_after ch n ≡ n +ℤ pos 1
-after_present (Update update) n e = ap (λ (b : Bool). if b then n +ℤ pos 1 else n) e
-
-pub after_absent : (ch : Change) (n : ℤ) → is_present n ≡ false → number_after ch n ≡ n
-after_absent (Update update) n e = ap (λ (b : Bool). if b then n +ℤ pos 1 else n) e
-
-pub absent_on : (ch : Change) (n : ℤ) → is_present n ≡ false → is_present (number_after ch n) ≡ false
-absent_on ch n e = ap is_present (after_absent ch n e) ∙ e
-
-pub present_on : (ch : Change) (n : ℤ) → is_present n ≡ true → is_present (number_after ch n) ≡ true
-present_on ch n e = ap is_present (after_present ch n e) ∙ next_present n e
-
--- where one number on a key is 0 or more, the first is
-pub first_present : (op : Op) (r : ℤ) (ops : List Op) (revnos : List ℤ) → follows ops revnos ≡ true → IsAt op r ops revnos → is_present r ≡ true → First op.key (λ m. is_present m ≡ true) ops revnos
-first_present op r ops revnos chain at present number found = by (is_present number) refl
-  where
-    by : (b : Bool) → is_present number ≡ b → is_present number ≡ true
-    by true e = e
-    by false e =
-        let first : First op.key (λ m. is_present m ≡ false) ops revnos = λ n also. subst (λ (m : ℤ). is_present m ≡ false) (same_Some number n (sym found ∙ also)) e in
-        absurd (true≢false (sym present ∙ at_has op.key (λ m. is_present m ≡ false) absent_on op r ops revnos chain first refl at))
-
--- and where one is below 0, the first is
-pub first_absent : (op : Op) (r : ℤ) (ops : List Op) (revnos : List ℤ) → follows ops revnos ≡ true → IsAt op r ops revnos → is_present r ≡ false → First op.key (λ m. is_present m ≡ false) ops revnos
-first_absent op r ops revnos chain at absent number found = by (is_present number) refl
-  where
-    by : (b : Bool) → is_present number ≡ b → is_present number ≡ false
-    by false e = e
-    by true e =
-        let first : First op.key (λ m. is_present m ≡ true) ops revnos = λ n also. subst (λ (m : ℤ). is_present m ≡ true) (same_Some number n (sym found ∙ also)) e in
-        absurd (true≢false (sym (at_has op.key (λ m. is_present m ≡ true) present_on op r ops revnos chain first refl at) ∙ absent))
+  pub before : was ≡ all ++ op ∷ post
+  pub after : is ≡ kept ++ post
+  pub thins : Thinned op.key all kept
 
 passes_test : (a b : ℕ) → a ≤ b → nat_le a b ≡ true
 passes_test a b le = grind (arith, nat_tests)
@@ -61,16 +31,7 @@ passes_test a b le = grind (arith, nat_tests)
 fails_test : (a b : ℕ) → b < a → nat_le a b ≡ false
 fails_test a b less = grind (arith, nat_tests)
 
-three : (a b : ℕ) → (a < b) ⊎ ((a ≡ b) ⊎ (b < a))
-three a b = grind arith
-
-pub same_number : (x r : ℤ) → is_present x ≡ true → is_present r ≡ true → unsigned_abs x ≡ unsigned_abs r → x ≡ r
-same_number x r p q e =
-    let (a, x_is) = present_number x p in
-    let (b, r_is) = present_number r q in
-    x_is ∙ ap pos (sym (ap unsigned_abs x_is) ∙ e ∙ ap unsigned_abs r_is) ∙ sym r_is
-
-module _ (v w : View) (key : Key) (r : ℤ) (present : is_present r ≡ true) (was : epoch_at v key ≡ unsigned_abs r) (is : epoch_at w key ≡ unsigned_abs (r +ℤ pos 1)) (elsewhere : (k : Key) → k ≢ key → w.held_at k ≡ v.held_at k) where
+module _ (v w : View) (key : Key) (r next : ℤ) (present : is_present r ≡ true) (rises : unsigned_abs r < unsigned_abs next) (was : epoch_at v key ≡ unsigned_abs r) (is : epoch_at w key ≡ unsigned_abs next) (elsewhere : (k : Key) → k ≢ key → w.held_at k ≡ v.held_at k) where
   abbrev test : View → Op → ℤ → Bool
   test view o x = nat_le (epoch_at view o.key) (unsigned_abs x)
 
@@ -81,17 +42,21 @@ module _ (v w : View) (key : Key) (r : ℤ) (present : is_present r ≡ true) (w
   test_was : (o : Op) (x : ℤ) → key ≡ o.key → test v o x ≡ nat_le (unsigned_abs r) (unsigned_abs x)
   test_was o x e = ap (λ (n : ℕ). nat_le n (unsigned_abs x)) (ap (epoch_at v) (sym e) ∙ was)
 
-  test_is : (o : Op) (x : ℤ) → key ≡ o.key → test w o x ≡ nat_le (unsigned_abs (r +ℤ pos 1)) (unsigned_abs x)
+  test_is : (o : Op) (x : ℤ) → key ≡ o.key → test w o x ≡ nat_le (unsigned_abs next) (unsigned_abs x)
   test_is o x e = ap (λ (n : ℕ). nat_le n (unsigned_abs x)) (ap (epoch_at w) (sym e) ∙ is)
 
+  -- at the number itself
+  here_was : (o : Op) (x : ℤ) → key ≡ o.key → x ≡ r → test v o x ≡ true
+  here_was o x same number = test_was o x same ∙ passes_test _ _ (subst (λ (n : ℤ). unsigned_abs r ≤ unsigned_abs n) (sym number) (le_refl _))
+
+  here_is : (o : Op) (x : ℤ) → key ≡ o.key → x ≡ r → test w o x ≡ false
+  here_is o x same number = test_is o x same ∙ fails_test _ _ (subst (λ (n : ℤ). unsigned_abs n < unsigned_abs next) (sym number) rises)
+
   abbrev Later : ℤ → Type 0
-  Later m = unsigned_abs (r +ℤ pos 1) ≤ unsigned_abs m
+  Later m = unsigned_abs next ≤ unsigned_abs m
 
   later_on : (ch : Change) (m : ℤ) → Later m → Later (number_after ch m)
   later_on ch m le = le_trans le (after_above ch m)
-
-  above_on : (ch : Change) (m : ℤ) → unsigned_abs r < unsigned_abs m → unsigned_abs r < unsigned_abs (number_after ch m)
-  above_on ch m less = lt_of_lt_of_le less (after_above ch m)
 
   -- operations at later numbers stay to be done
   all_later : (ops : List Op) (revnos : List ℤ) → follows ops revnos ≡ true → First key Later ops revnos → not_done w ops revnos ≡ not_done v ops revnos
@@ -105,42 +70,66 @@ module _ (v w : View) (key : Key) (r : ℤ) (present : is_present r ≡ true) (w
       alike false e = test_away o x e
       alike true e =
           let same = same_key-equal key o.key e in
-          let has = head_has key Later later_on o ops x revnos same first in
-          test_is o x same ∙ passes_test _ _ has ∙ sym (test_was o x same ∙ passes_test _ _ (le_trans (le_of_lt (next_above r present)) has))
+          let has = head_has key Later o ops x revnos same first in
+          test_is o x same ∙ passes_test _ _ has ∙ sym (test_was o x same ∙ passes_test _ _ (le_trans (le_of_lt rises) has))
 
-  module _ (op : Op) (on_key : op.key ≡ key) where
+  module _ (op : Op) (on_key : op.key ≡ key) (effect : has_effect op.change r ≡ true) (leaves : number_after op.change r ≡ next) where
+    abbrev TakenIf : Bool → Bool → Op → List Op → List Op → Type 0
+    TakenIf a b o xs ys = Taken op (if a then o ∷ xs else xs) (if b then o ∷ ys else ys)
+
     -- the head isn't on the key
-    pass_by : (o : Op) (x : ℤ) (xs ys : List Op) → same_key key o.key ≡ false → Taken op xs ys → Taken op (if test v o x then o ∷ xs else xs) (if test w o x then o ∷ ys else ys)
-    pass_by o x xs ys e t = subst (λ (b : Bool). Taken op (if test v o x then o ∷ xs else xs) (if b then o ∷ ys else ys)) (sym (test_away o x e)) (by (test v o x))
+    pass_by : (o : Op) (x : ℤ) (xs ys : List Op) → same_key key o.key ≡ false → Taken op xs ys → TakenIf (test v o x) (test w o x) o xs ys
+    pass_by o x xs ys e t = subst (λ (b : Bool). TakenIf (test v o x) b o xs ys) (sym (test_away o x e)) (by (test v o x))
       where
-        away : IsOn op.key (o ∷ t.pre) → ⊥
-        away (inl q) = same_key-other key o.key e (sym (q ∙ on_key))
-        away (inr on) = t.away on
-
-        by : (b : Bool) → Taken op (if b then o ∷ xs else xs) (if b then o ∷ ys else ys)
-        by true = record { pre = o ∷ t.pre; post = t.post; before = ap (λ (l : List Op). o ∷ l) t.before; after = ap (λ (l : List Op). o ∷ l) t.after; away = away }
+        by : (b : Bool) → TakenIf b b o xs ys
+        by true = record {
+          all = o ∷ t.all;
+          kept = o ∷ t.kept;
+          post = t.post;
+          before = ap (λ (l : List Op). o ∷ l) t.before;
+          after = ap (λ (l : List Op). o ∷ l) t.after;
+          thins = Thinned.Keep o t.all t.kept (λ q. same_key-other key o.key e (sym (q ∙ on_key))) t.thins;
+        }
         by false = t
 
     -- the head is the operation
-    take : (o : Op) (x : ℤ) (xs ys : List Op) → key ≡ o.key → o ≡ op → x ≡ r → ys ≡ xs → Taken op (if test v o x then o ∷ xs else xs) (if test w o x then o ∷ ys else ys)
+    take : (o : Op) (x : ℤ) (xs ys : List Op) → key ≡ o.key → o ≡ op → x ≡ r → ys ≡ xs → TakenIf (test v o x) (test w o x) o xs ys
     take o x xs ys same here number rest = record {
-      pre = [];
+      all = [];
+      kept = [];
       post = xs;
-      before = (λ i. if (test_was o x same ∙ passes_test _ _ (subst (λ (n : ℤ). unsigned_abs r ≤ unsigned_abs n) (sym number) (le_refl _))) i then here i ∷ xs else xs);
-      after = (λ i. if (test_is o x same ∙ fails_test _ _ (subst (λ (n : ℤ). unsigned_abs n < unsigned_abs (r +ℤ pos 1)) (sym number) (next_above r present))) i then o ∷ ys else ys) ∙ rest;
-      away = λ on. on;
+      before = (λ i. if here_was o x same number i then here i ∷ xs else xs);
+      after = (λ i. if here_is o x same number i then o ∷ ys else ys) ∙ rest;
+      thins = Thinned.End;
     }
 
+    -- the head does nothing at the operation's number
+    drop : (o : Op) (x : ℤ) (xs ys : List Op) → key ≡ o.key → x ≡ r → has_effect o.change x ≡ false → Taken op xs ys → TakenIf (test v o x) (test w o x) o xs ys
+    drop o x xs ys same number idle t = record {
+      all = o ∷ t.all;
+      kept = t.kept;
+      post = t.post;
+      before = (λ i. if here_was o x same number i then o ∷ t.before i else xs);
+      after = (λ i. if here_is o x same number i then o ∷ ys else ys) ∙ t.after;
+      thins = Thinned.Drop o t.all t.kept (sym same ∙ sym on_key) leaves_doc t.thins;
+    }
+      where
+        found_there : is_present x ≡ true
+        found_there = ap is_present number ∙ present
+
+        leaves_doc : LeavesDoc o.change
+        leaves_doc = record { body = λ found. idle_body o.change x (Some found) (sym found_there) idle; fits = λ found. idle_fits o.change x (Some found) (sym found_there) idle }
+
     -- the head is at an earlier number of the key
-    skip : (o : Op) (x : ℤ) (xs ys : List Op) → key ≡ o.key → unsigned_abs x < unsigned_abs r → Taken op xs ys → Taken op (if test v o x then o ∷ xs else xs) (if test w o x then o ∷ ys else ys)
+    skip : (o : Op) (x : ℤ) (xs ys : List Op) → key ≡ o.key → unsigned_abs x < unsigned_abs r → Taken op xs ys → TakenIf (test v o x) (test w o x) o xs ys
     skip o x xs ys same less t =
-        subst (λ (b : Bool). Taken op (if b then o ∷ xs else xs) (if test w o x then o ∷ ys else ys)) (sym (test_was o x same ∙ fails_test _ _ less))
-        (subst (λ (b : Bool). Taken op xs (if b then o ∷ ys else ys)) (sym (test_is o x same ∙ fails_test _ _ (lt_of_lt_of_le less (le_of_lt (next_above r present))))) t)
+        subst (λ (b : Bool). TakenIf b (test w o x) o xs ys) (sym (test_was o x same ∙ fails_test _ _ less))
+        (subst (λ (b : Bool). TakenIf false b o xs ys) (sym (test_is o x same ∙ fails_test _ _ (lt_of_lt_of_le less (le_of_lt rises)))) t)
 
     pub taken : (ops : List Op) (revnos : List ℤ) → follows ops revnos ≡ true → IsAt op r ops revnos → Taken op (not_done v ops revnos) (not_done w ops revnos)
     taken [] revnos chain at = absurd at
     taken (o ∷ ops) [] chain at = absurd at
-    taken (o ∷ ops) (x ∷ revnos) chain at = by (same_key key o.key) (int_eq x r) refl refl at (taken ops revnos (and_parts _ (follows ops revnos) chain).1)
+    taken (o ∷ ops) (x ∷ revnos) chain at = by (same_key key o.key) (int_eq x r) refl refl at (taken ops revnos rest_chain)
       where
         xs : List Op
         xs = not_done v ops revnos
@@ -151,39 +140,32 @@ module _ (v w : View) (key : Key) (r : ℤ) (present : is_present r ≡ true) (w
         rest_chain : follows ops revnos ≡ true
         rest_chain = (and_parts _ (follows ops revnos) chain).1
 
-        -- after the operation's own number all numbers on the key are later
-        rest_later : key ≡ o.key → x ≡ r → First key Later ops revnos
-        rest_later same number = tail_here key Later later_on o ops x revnos chain same (subst (λ (n : ℤ). unsigned_abs (r +ℤ pos 1) ≤ unsigned_abs n) (sym (ap (number_after o.change) number ∙ after_present o.change r present)) (le_refl _))
+        -- after an effect at the operation's number all numbers on the key are later
+        rest_later : key ≡ o.key → unsigned_abs (number_after o.change x) ≡ unsigned_abs next → First key Later ops revnos
+        rest_later same number = tail_here key Later o ops x revnos chain same (subst (λ (n : ℕ). unsigned_abs next ≤ n) (sym number) (le_refl _))
 
+        -- an operation later in the chain stands at the head's number or at a later one
         earlier : key ≡ o.key → (x ≡ r → ⊥) → IsAt op r ops revnos → unsigned_abs x < unsigned_abs r
-        earlier same apart later = by_presence (is_present x) refl
+        earlier same apart later = by_order (at_has key (IsFrom x) (from_on x) op r ops revnos rest_chain (tail_here key (IsFrom x) o ops x revnos chain same (from_on x o.change x (inl refl))) on_key later)
           where
-            none : is_present x ≡ false → ⊥
-            none e =
-                let first = tail_here key (λ m. is_present m ≡ false) absent_on o ops x revnos chain same (absent_on o.change x e) in
-                true≢false (sym present ∙ at_has key (λ m. is_present m ≡ false) absent_on op r ops revnos rest_chain first on_key later)
+            by_order : IsFrom x r → unsigned_abs x < unsigned_abs r
+            by_order (inl e) = absurd (apart (sym e))
+            by_order (inr less) = less
 
-            none_above : unsigned_abs r < unsigned_abs x → ⊥
-            none_above less =
-                let first = tail_here key (λ m. unsigned_abs r < unsigned_abs m) above_on o ops x revnos chain same (above_on o.change x less) in
-                lt_irrefl _ (at_has key (λ m. unsigned_abs r < unsigned_abs m) above_on op r ops revnos rest_chain first on_key later)
+        at_number : key ≡ o.key → x ≡ r → (b : Bool) → has_effect o.change x ≡ b → IsAt op r ops revnos → Taken op xs ys → TakenIf (test v o x) (test w o x) o xs ys
+        at_number same number false e later t = drop o x xs ys same number e t
+        at_number same number true e later t = absurd (lt_irrefl _ (lt_of_lt_of_le rises (at_has key Later later_on op r ops revnos rest_chain (rest_later same after) on_key later)))
+          where
+            after : unsigned_abs (number_after o.change x) ≡ unsigned_abs next
+            after = after_effect o.change x e ∙ ap (λ (n : ℤ). unsigned_abs n + 1) number ∙ sym (ap unsigned_abs (sym leaves) ∙ after_effect op.change r effect)
 
-            by_number : is_present x ≡ true → (unsigned_abs x < unsigned_abs r) ⊎ ((unsigned_abs x ≡ unsigned_abs r) ⊎ (unsigned_abs r < unsigned_abs x)) → unsigned_abs x < unsigned_abs r
-            by_number e (inl less) = less
-            by_number e (inr (inl equal)) = absurd (apart (same_number x r e present equal))
-            by_number e (inr (inr above)) = absurd (none_above above)
-
-            by_presence : (b : Bool) → is_present x ≡ b → unsigned_abs x < unsigned_abs r
-            by_presence false e = absurd (none e)
-            by_presence true e = by_number e (three (unsigned_abs x) (unsigned_abs r))
-
-        by : (a b : Bool) → same_key key o.key ≡ a → int_eq x r ≡ b → IsAt op r (o ∷ ops) (x ∷ revnos) → (IsAt op r ops revnos → Taken op xs ys) → Taken op (if test v o x then o ∷ xs else xs) (if test w o x then o ∷ ys else ys)
+        by : (a b : Bool) → same_key key o.key ≡ a → int_eq x r ≡ b → IsAt op r (o ∷ ops) (x ∷ revnos) → (IsAt op r ops revnos → Taken op xs ys) → TakenIf (test v o x) (test w o x) o xs ys
         by false b e q (inl here) rest = absurd (same_key-other key o.key e (sym (ap (λ (p : Op). p.key) here.0 ∙ on_key)))
         by false b e q (inr later) rest = pass_by o x xs ys e (rest later)
-        by true true e q (inl here) rest = take o x xs ys (same_key-equal key o.key e) here.0 here.1 (all_later ops revnos rest_chain (rest_later (same_key-equal key o.key e) here.1))
-        by true true e q (inr later) rest =
-            let number = (Decides-int_eq x r).0 q in
-            absurd (lt_irrefl _ (lt_of_lt_of_le (next_above r present) (at_has key Later later_on op r ops revnos rest_chain (rest_later (same_key-equal key o.key e) number) on_key later)))
+        by true true e q (inl here) rest =
+            let same = same_key-equal key o.key e in
+            take o x xs ys same here.0 here.1 (all_later ops revnos rest_chain (rest_later same (ap unsigned_abs ((λ i. number_after (here.0 i).change (here.1 i)) ∙ leaves))))
+        by true true e q (inr later) rest = at_number (same_key-equal key o.key e) ((Decides-int_eq x r).0 q) (has_effect o.change x) refl later (rest later)
         by true false e q (inl here) rest = absurd (true≢false (sym ((Decides-int_eq x r).1 here.1) ∙ q))
         by true false e q (inr later) rest =
             let same = same_key-equal key o.key e in

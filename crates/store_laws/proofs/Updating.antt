@@ -1,5 +1,5 @@
 -- An applying record's update of its document: the meaning stays, and nothing is left to do there.
-use Rattle.std.proofs.Common.{◌≡◌, ◌≢◌, ℕ, ℤ, pos, ◌+ℤ◌, ◌<◌, ◌≤◌, le_of_lt, Bool, true, false, ◌&&◌, Option, Some, IsTrue, unwrap_or, List, [], sym, ap, ◌∙◌, refl, subst, unsigned_abs, true≢false, if◌then◌else◌}
+use Rattle.std.proofs.Common.{◌≡◌, ◌≢◌, ℕ, ℤ, pos, ◌+ℤ◌, ◌<◌, ◌≤◌, le_of_lt, Bool, true, false, ◌&&◌, Option, Some, IsTrue, unwrap_or, List, [], ◌∷◌, sym, ap, ◌∙◌, refl, subst, unsigned_abs, true≢false, if◌then◌else◌}
 use Rattle.std.proofs.lemmas.Bool.{and_parts}
 use Rattle.std.proofs.lemmas.Option.{same_Some}
 use Rattle.std.specs.Cmp.{Equal-is}
@@ -11,8 +11,8 @@ use Rattle.txn_record.proofs.KeyOrder.{id_cmp_total, id_cmp-IsAntisymmetric}
 use Rattle.std.proofs.lemmas.Cmp.{tied_itself}
 use Rattle.txn_record.specs.Documents.{changes_fit, body_after, effect_of}
 use Rattle.txn_record.specs.Keys.{id_cmp}
-use Rattle.txn_record.specs.Revnos.{same_key, is_present, is_within, number_after, is_on_chain, stays_within, follows}
-use Rattle.txn_record.specs.Updates.{updated}
+use Rattle.txn_record.specs.Revnos.{same_key, is_present, is_within, has_effect, number_after, is_on_chain, stays_within, follows}
+use Rattle.doc_update.specs.Updates.{updated}
 use Rattle.txn_record.specs.declared.id.TxnId.{TxnId}
 use Rattle.txn_record.specs.declared.key.Key.{Key}
 use Rattle.txn_record.specs.declared.op.Change.{Change}
@@ -41,8 +41,9 @@ use Rattle.store_trait.specs.Done.{progress, progress_of}
 use Rattle.store_laws.proofs.Effects.{meaning-updated}
 use Rattle.store_laws.proofs.Exclusive.{one_applying}
 use Rattle.store_laws.proofs.Fitting.{changes_fit-agree, taken_fits}
-use Rattle.store_laws.proofs.Inherits.{at_on, at_leaves, at_within, chain_has}
-use Rattle.store_laws.proofs.Taken.{Taken, taken, after_present, present_on, first_present}
+use Rattle.store_laws.proofs.Inherits.{at_on, at_leaves, at_within}
+use Rattle.store_laws.proofs.Taken.{Taken, taken}
+use Rattle.store_laws.proofs.Thinned.{thinned_away, thinned_fits}
 use Rattle.txn_record.proofs.DocumentLaws.{get-effect_of_here, get-effect_of_other}
 use Rattle.store_laws.proofs.Idle.{OnlyApplies, on_pending, pending_of-keys, pending_of-applying}
 use Rattle.store_laws.proofs.RecordEdits.{stored_numbers}
@@ -50,7 +51,7 @@ use Rattle.store_laws.proofs.Lookups
 use Rattle.store_laws.proofs.Lost.{lost_same}
 use Rattle.store_laws.proofs.Looks.{put, read_put, doc_held_elsewhere, doc_writes}
 use Rattle.store_laws.proofs.Orderly.{orderly}
-use Rattle.store_laws.proofs.Owning.{next_present, next_above, doc_under, stash_below, owner_present, owner_grows, owned_held, owned_queue}
+use Rattle.store_laws.proofs.Owning.{next_present, next_above, doc_under, owner_grows, owned_held, owned_queue}
 use Rattle.store_laws.proofs.Records.{records-put_other}
 use Rattle.store_laws.proofs.Runs.{same_key-itself, same_key-equal, same_key-other}
 use Rattle.store_laws.proofs.Shapes.{ChangesHeld}
@@ -82,39 +83,59 @@ module _ (c : Content) (s : IsSound c) (id : TxnId) (rec : Record) (op : Op) (re
   pub within_ends : (is_within revno ≡ true) × (is_within (number_after op.change revno) ≡ true)
   within_ends = at_within op revno rec.ops u.numbers (and_parts (follows rec.ops u.numbers) (stays_within rec.ops u.numbers) chain).1 u.stands
 
-  -- where the operation finds its document, the owner stands at a number of 0 or more
-  pub owner_there : is_present revno ≡ true → is_present (held_number ((look c).held_at op.key)) ≡ true
-  owner_there present =
-      chain_has op.key (λ m. is_present m ≡ true) present_on (held_number ((look c).held_at op.key)) rec.ops u.numbers in_turn (first_present op revno rec.ops u.numbers in_turn u.stands present)
-      (sym (ap (λ (o : Option (List ℤ)). is_on_chain op.key (held_number ((look c).held_at op.key)) rec.ops (unwrap_or o [])) u.numbered)
-      ∙ (s.on_chain id rec u.there (ap (same_state state.Applying) u.applies)).on_chain op.key on_key)
+  pub owner_on_chain : is_on_chain op.key (held_number ((look c).held_at op.key)) rec.ops u.numbers ≡ true
+  owner_on_chain =
+      sym (ap (λ (o : Option (List ℤ)). is_on_chain op.key (held_number ((look c).held_at op.key)) rec.ops (unwrap_or o [])) u.numbered)
+      ∙ (s.on_chain id rec u.there (ap (same_state state.Applying) u.applies)).on_chain op.key on_key
+
+  pub effect_there : is_present revno ≡ true → has_effect op.change revno ≡ true
+  effect_there present = ap (λ (ch : Change). has_effect ch revno) u.change ∙ present
+
+  pub after_there : is_present revno ≡ true → number_after op.change revno ≡ revno +ℤ pos 1
+  after_there present = ap (λ (ch : Change). number_after ch revno) u.change ∙ ap (λ (b : Bool). if b then revno +ℤ pos 1 else revno) present
 
   module _ (doc : DocCell) (found : doc_at c op.key ≡ Some doc) (at : doc.revno ≡ revno) where
-    present : is_present doc.revno ≡ true
+    pub present : is_present doc.revno ≡ true
     present = (and_parts (is_present doc.revno) (is_within doc.revno) (s.numbers (name.Doc op.key) (cell.Doc doc) (doc_under c op.key doc found))).0
 
     pub revno_present : is_present revno ≡ true
     revno_present = subst (λ (n : ℤ). is_present n ≡ true) at present
 
-    next_number : number_after op.change revno ≡ doc.revno +ℤ pos 1
-    next_number = after_present op.change revno revno_present ∙ ap (λ (n : ℤ). n +ℤ pos 1) (sym at)
+    pub next_number : number_after op.change revno ≡ doc.revno +ℤ pos 1
+    next_number = after_there revno_present ∙ ap (λ (n : ℤ). n +ℤ pos 1) (sym at)
 
-    pub owns : owner_of (Some doc) (stash_at c op.key) ≡ side.Document
-    unfolding look
-    owns =
-        owner_present doc (stash_at c op.key) (stash_below c s op.key)
-        (ap (λ (d : Option DocCell). is_present (held_number (owner_held d (stash_at c op.key)))) (sym found) ∙ owner_there revno_present)
+    pub numbered_next : (is_present (doc.revno +ℤ pos 1) && is_within (doc.revno +ℤ pos 1)) ≡ true
+    numbered_next = λ i. next_present doc.revno present i && (ap is_within (sym next_number) ∙ within_ends.1) i
 
+    pub rises : unsigned_abs revno < unsigned_abs (doc.revno +ℤ pos 1)
+    rises = subst (λ (n : ℤ). unsigned_abs n < unsigned_abs (doc.revno +ℤ pos 1)) at (next_above doc.revno present)
+
+    pub progressed : progress c op.key ≤ epoch (doc.revno +ℤ pos 1)
+    progressed = subst (λ (d : Option DocCell). progress_of d (stash_at c op.key) ≤ epoch (doc.revno +ℤ pos 1)) (sym found) (le_of_lt (next_above doc.revno present))
+
+    -- the operation is done
+    pub past_now : (body : Value) → unsigned_abs revno < progress (put c op.key (record doc { body = body; revno = doc.revno +ℤ pos 1 })) op.key
+    past_now body =
+        let next : DocCell = record doc { body = body; revno = doc.revno +ℤ pos 1 } in
+        subst (λ (n : ℕ). unsigned_abs revno < n)
+        (sym (read_put c op.key next progress_of op.key ∙ ap (λ (b : Bool). if b then progress_of (Some next) (stash_at c op.key) else progress_of (doc_at c op.key) (stash_at c op.key)) (same_key-itself op.key)))
+        rises
+
+  -- The document owns its key.
+  module _ (doc : DocCell) (found : doc_at c op.key ≡ Some doc) (at : doc.revno ≡ revno) (owns : owner_of (Some doc) (stash_at c op.key) ≡ side.Document) where
     pub held_now : (look c).held_at op.key ≡ Body doc.revno doc.body
     unfolding look
     held_now = ap (λ (d : Option DocCell). owner_held d (stash_at c op.key)) found ∙ owned_held doc (stash_at c op.key) owns
+
+    pub body_there : get (bodies c) op.key ≡ Some doc.body
+    body_there = get-bodies c op.key ∙ ap body_in held_now
 
     module _ (body : Value) (fit : updated update doc.body ≡ Some body) where
       abbrev next : DocCell
       next = record doc { body = body; revno = doc.revno +ℤ pos 1 }
 
       owns_next : owner_of (Some next) (stash_at c op.key) ≡ side.Document
-      owns_next = owner_grows doc next (stash_at c op.key) (le_of_lt (next_above doc.revno present)) owns
+      owns_next = owner_grows doc next (stash_at c op.key) (le_of_lt (next_above doc.revno (present doc found at))) owns
 
       held_next : (look (put c op.key next)).held_at op.key ≡ Body (doc.revno +ℤ pos 1) body
       unfolding look
@@ -123,23 +144,16 @@ module _ (c : Content) (s : IsSound c) (id : TxnId) (rec : Record) (op : Op) (re
           ∙ ap (λ (b : Bool). if b then owner_held (Some next) (stash_at c op.key) else owner_held (doc_at c op.key) (stash_at c op.key)) (same_key-itself op.key)
           ∙ owned_held next (stash_at c op.key) owns_next
 
-      -- the operation is done
-      pub past_now : unsigned_abs revno < progress (put c op.key next) op.key
-      past_now =
-          subst (λ (n : ℕ). unsigned_abs revno < n)
-          (sym (read_put c op.key next progress_of op.key ∙ ap (λ (b : Bool). if b then progress_of (Some next) (stash_at c op.key) else progress_of (doc_at c op.key) (stash_at c op.key)) (same_key-itself op.key)))
-          (subst (λ (n : ℤ). unsigned_abs n < unsigned_abs (doc.revno +ℤ pos 1)) at (next_above doc.revno present))
-
-      -- just this operation is no more to be done
+      -- the operation is no more to be done
       took : Taken op (pending_of (look c) rec) (pending_of (look (put c op.key next)) rec)
       took =
           let d = put c op.key next in
           subst (λ (l : List Op). Taken op l (pending_of (look d) rec)) (sym (pending_of-applying (look c) rec rec.ops u.numbers u.applies refl u.numbered))
           (subst (Taken op (not_done (look c) rec.ops u.numbers)) (sym (pending_of-applying (look d) rec rec.ops u.numbers u.applies refl u.numbered))
-          (taken (look c) (look d) op.key revno revno_present
+          (taken (look c) (look d) op.key revno (doc.revno +ℤ pos 1) (revno_present doc found at) (rises doc found at)
           (ap (λ (h : Held). unsigned_abs (held_number h)) held_now ∙ ap unsigned_abs at)
-          (ap (λ (h : Held). unsigned_abs (held_number h)) held_next ∙ ap (λ (n : ℤ). unsigned_abs (n +ℤ pos 1)) at)
-          (doc_held_elsewhere c op.key next).held op refl rec.ops u.numbers in_turn u.stands))
+          (ap (λ (h : Held). unsigned_abs (held_number h)) held_next)
+          (doc_held_elsewhere c op.key next).held op refl (effect_there (revno_present doc found at)) (next_number doc found at) rec.ops u.numbers in_turn u.stands))
 
       change : ChangesHeld (look c) (look (put c op.key next)) op.key
       change = doc_writes c op.key next (owned_queue next (stash_at c op.key) owns_next ∙ sym (ap (λ (d : Option DocCell). owner_queue d (stash_at c op.key)) found ∙ owned_queue doc (stash_at c op.key) owns))
@@ -148,10 +162,7 @@ module _ (c : Content) (s : IsSound c) (id : TxnId) (rec : Record) (op : Op) (re
       step = write_step op.key id (orderly c s) change is_applying has_key
 
       cells : HasSoundCells (put c op.key next)
-      cells = cells_put_doc c op.key next (sound_cells c s) step.later numbered (s.doc_tokens op.key doc found) (s.doc_nonces op.key doc found)
-        where
-          numbered : (is_present (doc.revno +ℤ pos 1) && is_within (doc.revno +ℤ pos 1)) ≡ true
-          numbered = λ i. next_present doc.revno present i && (ap is_within (sym next_number) ∙ within_ends.1) i
+      cells = cells_put_doc c op.key next (sound_cells c s) step.later (numbered_next doc found at) (s.doc_tokens op.key doc found) (s.doc_nonces op.key doc found)
 
       -- a record on other keys finds the same
       same_there : (other : TxnId) (r : Record) → record_at c other ≡ Some r → IsTrue (same_state state.Applying r.state) → other ≢ id → (key : Key) → IsOn key r.ops → (look (put c op.key next)).held_at key ≡ (look c).held_at key
@@ -194,13 +205,14 @@ module _ (c : Content) (s : IsSound c) (id : TxnId) (rec : Record) (op : Op) (re
       own_stands = (
         record { on_chain = λ key on. by key (same_key key op.key) refl on },
         ap (λ (ops : List Op). changes_fit ops (bodies (put c op.key next))) took.after
-            ∙ taken_fits op took.pre took.post (bodies c) (bodies (put c op.key next)) took.away bodies_done
-            (sym (ap (λ (ops : List Op). changes_fit ops (bodies c)) took.before) ∙ s.fits id rec u.there (ap (same_state state.Applying) u.applies)),
+            ∙ taken_fits op took.kept took.post (bodies c) (bodies (put c op.key next)) (thinned_away op.key took.all took.kept took.thins) bodies_done
+            (thinned_fits op.key took.all took.kept (op ∷ took.post) (bodies c) doc.body took.thins body_there
+            (sym (ap (λ (ops : List Op). changes_fit ops (bodies c)) took.before) ∙ s.fits id rec u.there (ap (same_state state.Applying) u.applies))),
       )
         where
           here : is_on_chain op.key (held_number ((look (put c op.key next)).held_at op.key)) rec.ops (unwrap_or rec.revnos []) ≡ true
           here =
-              (λ i. is_on_chain op.key ((ap held_number held_next ∙ sym next_number) i) rec.ops (unwrap_or (u.numbered i) []))
+              (λ i. is_on_chain op.key ((ap held_number held_next ∙ sym (next_number doc found at)) i) rec.ops (unwrap_or (u.numbered i) []))
               ∙ at_leaves op revno rec.ops u.numbers u.stands
 
           by : (key : Key) (b : Bool) → same_key key op.key ≡ b → IsOn key rec.ops → is_on_chain key (held_number ((look (put c op.key next)).held_at key)) rec.ops (unwrap_or rec.revnos []) ≡ true
@@ -225,16 +237,13 @@ module _ (c : Content) (s : IsSound c) (id : TxnId) (rec : Record) (op : Op) (re
                   subst (λ (r : Record). StandsOnChain (look (put c op.key next)) r × PendingFits (put c op.key next) r) own own_stands
               by false e = other_stands i r before applies (λ q. true≢false (sym (ap is_eq (tied_itself id_cmp_total id)) ∙ sym (ap (λ (j : TxnId). is_eq (id_cmp j id)) q) ∙ e))
 
-      progressed : progress c op.key ≤ epoch (doc.revno +ℤ pos 1)
-      progressed = subst (λ (d : Option DocCell). progress_of d (stash_at c op.key) ≤ epoch (doc.revno +ℤ pos 1)) (sym found) (le_of_lt (next_above doc.revno present))
-
       same_records : records (put c op.key next) ≡ records c
       same_records = records-put_other c (name.Doc op.key) (cell.Doc next) refl (ap (option_and_then as_record) (doc_under c op.key doc found))
 
       -- the update leaves the meaning, and decides nothing
       pub written : IsQuiet c (put c op.key next)
       written = record {
-        step = record { sound = sound_from (put c op.key next) cells step.orderly chains; later = step.later; lost = lost_same change.records change.queues; done = done_put_doc c op.key next progressed };
-        means = meaning-updated c id s.kinds rec u.there (put c op.key next) same_records op (doc_held_elsewhere c op.key next) only took body_done;
+        step = record { sound = sound_from (put c op.key next) cells step.orderly chains; later = step.later; lost = lost_same change.records change.queues; done = done_put_doc c op.key next (progressed doc found at) };
+        means = meaning-updated c id s.kinds rec u.there (put c op.key next) same_records op (doc_held_elsewhere c op.key next) only doc.body (ap body_in held_now) took body_done;
         none = λ at. decided_by-same c (put c op.key next) at s.kinds same_records;
       }

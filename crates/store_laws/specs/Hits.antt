@@ -1,7 +1,7 @@
 -- What an edit found where it hit, and what it left.
 use Rattle.std.specs.Prelude.{◌≡◌, ℕ, ◌+◌, ◌<◌, ℤ, pos, ◌+ℤ◌, true, Option, Some, None, List}
 use Rattle.doc_value.specs.declared.value.Value.{Value}
-use Rattle.txn_record.specs.Updates.{updated}
+use Rattle.doc_update.specs.Updates.{updated}
 use Rattle.txn_record.specs.declared.id.TxnId.{TxnId}
 use Rattle.txn_record.specs.declared.id.Token.{Token}
 use Rattle.txn_record.specs.declared.key.Key.{Key}

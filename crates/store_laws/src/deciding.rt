@@ -1,7 +1,7 @@
 //! The moves of a prepared record. Either is the decision on its transaction, made by one call.
-ghost use Rattle.std.specs.Prelude.{◌≡◌, true, false, ℤ, List, [], ◌∷◌, Some, None};
+ghost use Rattle.std.specs.Prelude.{◌≡◌, ◌&&◌, true, false, ℤ, List, [], ◌∷◌, Some, None};
 ghost use Rattle.std.specs.FinMap.{get};
-ghost use Rattle.txn_record.specs.Documents.{tests, change_fits};
+ghost use Rattle.txn_record.specs.Documents.{tests, assertion_holds, change_fits};
 ghost use Rattle.txn_record.specs.Revnos.{is_within, number_after};
 ghost use Rattle.txn_record.specs.declared.id.TxnId.{TxnId};
 ghost use Rattle.txn_record.specs.declared.key.Key.{Key};
@@ -32,7 +32,7 @@ pub fn testing_a_ready_record()
 pub fn testing_one_operation()
     ensures { (c : Content) (id : TxnId) (rec : Record) (op : Op) →
         IsSound c → record_at c id ≡ Some rec → rec.state ≡ state.Prepared → IsReady (look c) id → rec.ops ≡ op ∷ [] →
-        tests rec.ops (meaning c) ≡ change_fits op.change (body_in ((look c).held_at op.key)) }
+        tests rec.ops (meaning c) ≡ (assertion_holds op.assert (body_in ((look c).held_at op.key)) && change_fits op.change (body_in ((look c).held_at op.key))) }
 {}
 
 /// The chain of one operation is the number of its key's owner, where the number that it leaves is

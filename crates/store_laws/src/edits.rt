@@ -2,7 +2,7 @@
 ghost use Rattle.std.specs.Prelude.{◌≡◌, ◌≢◌, ℕ, ◌<◌, ℤ, true, List, Option, Some, None, is_some, unwrap_or};
 ghost use Rattle.std.specs.FinMap.{get};
 ghost use Rattle.doc_value.specs.declared.value.Value.{Value};
-ghost use Rattle.txn_record.specs.Updates.{updated};
+ghost use Rattle.doc_update.specs.Updates.{updated};
 ghost use Rattle.txn_record.specs.declared.id.Token.{Token};
 ghost use Rattle.txn_record.specs.declared.id.TxnId.{TxnId};
 ghost use Rattle.txn_record.specs.declared.key.Key.{Key};

@@ -1,10 +1,11 @@
 //! How a decided record comes to its end: its updates, and the moves to applied and aborted. Whoever
 //! makes these calls, and however often, the meaning stays.
-ghost use Rattle.std.specs.Prelude.{◌≡◌, ◌≤◌, unsigned_abs, ℕ, ℤ, List, [], ◌∷◌, Some, None, ◌⊎◌};
+ghost use Rattle.std.specs.Prelude.{◌≡◌, ◌≤◌, unsigned_abs, false, ℕ, ℤ, List, [], ◌∷◌, Some, None, ◌⊎◌};
 ghost use Rattle.doc_value.specs.declared.value.Value.{Value};
-ghost use Rattle.txn_record.specs.Transactions.{IsTransaction};
+ghost use Rattle.txn_record.specs.Revnos.{has_effect};
 ghost use Rattle.txn_record.specs.declared.id.Token.{Token};
 ghost use Rattle.txn_record.specs.declared.id.TxnId.{TxnId};
+ghost use Rattle.txn_record.specs.declared.op.Change.TheVariants.{Update};
 ghost use Rattle.txn_record.specs.declared.op.Op.{Op};
 ghost use Rattle.txn_record.specs.declared.record.Record.{Record};
 ghost use Rattle.txn_record.specs.declared.state.State.TheVariants as state;
@@ -14,30 +15,39 @@ ghost use Rattle.store_trait.specs.Edits.{edited};
 ghost use Rattle.store_trait.specs.Readiness.{token};
 ghost use Rattle.store_trait.specs.Soundness.{IsSound};
 ghost use Rattle.store_trait.specs.Steps.{IsStep, IsQuiet};
-ghost use Rattle.store_trait.specs.View.{record_at};
+ghost use Rattle.store_trait.specs.View.{look, record_at, epoch_at};
 ghost use Rattle.store_trait.specs.declared.edit.Edit.TheVariants as edit;
 ghost use Rattle.store_trait.specs.declared.name.Name.TheVariants as name;
 ghost use Rattle.store_laws.specs.Chains.{AppliesUpdate};
 
 /// An applying record's update at its number decides nothing and leaves the meaning. After it, hit or
-/// miss, the operation has passed, once its key had come to its number.
+/// miss, the operation has passed, once its key had come to its number, and no stash entry is ahead of
+/// the key's document.
 pub fn updating_a_document()
     ensures quiet { (c : Content) (id : TxnId) (rec : Record) (op : Op) (revno : ℤ) (update : Value) (waiting : Token) →
         IsSound c → AppliesUpdate c id rec op revno update →
         IsQuiet c (edited c (name.Doc op.key) (edit.Update revno waiting update)) }
     ensures passes { (c : Content) (id : TxnId) (rec : Record) (op : Op) (revno : ℤ) (update : Value) (nonce : ℕ) →
-        IsSound c → AppliesUpdate c id rec op revno update → rec.nonce ≡ Some nonce → IsTransaction rec.ops →
+        IsSound c → AppliesUpdate c id rec op revno update → rec.nonce ≡ Some nonce → rec.ops ≡ op ∷ [] →
         HasPassed (edited c (name.Doc op.key) (edit.Update revno (token id nonce) update)) op revno }
     ensures passes_in_turn { (c : Content) (id : TxnId) (rec : Record) (op : Op) (revno : ℤ) (update : Value) (nonce : ℕ) →
-        IsSound c → AppliesUpdate c id rec op revno update → rec.nonce ≡ Some nonce → unsigned_abs revno ≤ progress c op.key →
+        IsSound c → AppliesUpdate c id rec op revno update → rec.nonce ≡ Some nonce → unsigned_abs revno ≤ progress c op.key → epoch_at (look c) op.key ≤ progress c op.key →
         HasPassed (edited c (name.Doc op.key) (edit.Update revno (token id nonce) update)) op revno }
 {}
 
-/// An update of an operation that has passed changes nothing.
+/// The update of an operation that has passed changes nothing.
 pub fn updating_too_late()
     ensures { (c : Content) (op : Op) (revno : ℤ) (waiting : Token) (update : Value) →
-        IsSound c → HasPassed c op revno →
+        IsSound c → op.change ≡ Update update → HasPassed c op revno →
         edited c (name.Doc op.key) (edit.Update revno waiting update) ≡ c }
+{}
+
+/// An operation that does nothing at its number has passed from the start, and a transaction of one
+/// operation has passed with it: so a record whose operation has no effect may close at once.
+pub fn passing_without_effect()
+    ensures nothing { (c : Content) (op : Op) (revno : ℤ) → has_effect op.change revno ≡ false → HasPassed c op revno }
+    ensures alone { (c : Content) (ops : List Op) (op : Op) (revno : ℤ) →
+        ops ≡ op ∷ [] → HasPassed c op revno → AllPassed c ops (revno ∷ []) }
 {}
 
 /// What has passed stays so at every step, and an applying record stays so, with its numbers, until

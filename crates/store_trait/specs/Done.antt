@@ -1,6 +1,6 @@
 -- What an applying record has done, and that it stays done.
 use Rattle.std.specs.Prelude.{◌≡◌, ℕ, ◌<◌, ◌≤◌, true, false, ℤ, unsigned_abs, Option, Some, None, List, [], ◌∷◌, ◌⊎◌}
-use Rattle.txn_record.specs.Revnos.{is_present}
+use Rattle.txn_record.specs.Revnos.{has_effect}
 use Rattle.txn_record.specs.declared.id.TxnId.{TxnId}
 use Rattle.txn_record.specs.declared.key.Key.{Key}
 use Rattle.txn_record.specs.declared.op.Op.{Op}
@@ -20,9 +20,9 @@ progress_of None stash = epoch (held_number (owner_held None stash))
 abbrev pub progress : Content → Key → ℕ
 progress c key = progress_of (doc_at c key) (stash_at c key)
 
--- an operation has nothing left to do at its number: it finds no document, or its key is past the number
+-- an operation has nothing left to do at its number: it does nothing there, or its key is past the number
 abbrev pub HasPassed : Content → Op → ℤ → Type 0
-HasPassed c op revno = (is_present revno ≡ false) ⊎ (unsigned_abs revno < progress c op.key)
+HasPassed c op revno = (has_effect op.change revno ≡ false) ⊎ (unsigned_abs revno < progress c op.key)
 
 abbrev pub AllPassed : Content → List Op → List ℤ → Type 0
 AllPassed c (op ∷ ops) (revno ∷ revnos) = HasPassed c op revno × AllPassed c ops revnos

@@ -11,10 +11,11 @@ use crate::cell::{Cell, DocCell, Tokens};
 use crate::edit::Edit;
 use crate::guards::{has_token, may_stand, same_id, same_state, takes_update};
 use crate::name::Name;
+use doc_update::{Update, apply};
 use doc_value::OutOfMemory;
 use sqlite_items::Items;
 use std::alloc::Global;
-use txn_record::{Record, State, Token, Update, apply};
+use txn_record::{Record, State, Token};
 
 /// What an edit came to: nothing where it missed, a cell under its name, or none there.
 #[derive(Drop)]

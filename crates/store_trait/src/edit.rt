@@ -1,10 +1,11 @@
 ghost use Rattle.std.specs.Prelude.{◌≡◌, IfOk};
 
 use crate::cell::Cell;
+use doc_update::Update;
 use doc_value::OutOfMemory;
 use sqlite_items::Items;
 use std::alloc::Global;
-use txn_record::{Record, State, Token, Update};
+use txn_record::{Record, State, Token};
 
 /// A change of one cell, made only where its guard holds.
 #[derive(Drop)]

@@ -1,6 +1,6 @@
 use Rattle.std.proofs.Common.{◌≡◌, Bool, true, false, Option, Some, None, option_map, is_some, cond, sym, ◌∙◌}
 use Rattle.doc_value.specs.declared.value.Value.{Value}
-use Rattle.txn_record.specs.Updates.{updated}
+use Rattle.doc_update.specs.Updates.{updated}
 use Rattle.std.proofs.lemmas.Int.{to_z-of_z}
 use Rattle.store_trait.specs.Edits.{with_body, is_updatable}
 use Rattle.store_trait.specs.declared.cell.DocCell.{DocCell}
