@@ -1,12 +1,12 @@
-use Rattle.std.proofs.Common.{◌≡◌, ℕ, ◌+◌, ◌≤◌, ◌<◌, ◌⊎◌, min, Bool, true, false, cond, nat_le, nat_lt, List, [], Result, Ok, Err, OnOk, OnErr, IsErrOf, IsTrue, inl, inr, refl, sym, ap, ◌∙◌, subst, arith, Option, Some, None}
+use Rattle.std.proofs.Common.{◌≡◌, ℕ, ◌+◌, ◌≤◌, ◌<◌, ◌⊎◌, min, Bool, true, false, cond, nat_le, nat_lt, [], Result, Ok, Err, OnOk, OnErr, IsErrOf, inl, inr, refl, sym, ap, ◌∙◌, subst, arith, None}
 use Rattle.std.proofs.lemmas.Bool.Decides.{nat_tests}
 use Rattle.store_trait.specs.Edits.{Hit, put_under}
-use Rattle.store_trait.specs.Calls.{OneCall, GoesOn, Rose}
+use Rattle.store_trait.specs.Calls.{OneCall, Rose}
 use Rattle.store_trait.specs.declared.name.Name.{Name}
 use Rattle.store_trait.specs.declared.name.Name.TheVariants as name
 use Rattle.store_trait.specs.declared.store.StoreError.{StoreError}
 use Rattle.store_trait.specs.declared.store.StoreError.TheVariants.{Failed, OutOfMemory}
-use Rattle.store_memory.specs.Told.{Told, IsCounted, place_of, content_of, calls_of, faults_of, fault_limit, call_limit, failed, logged, called}
+use Rattle.store_memory.specs.Told.{Told, IsCounted, place_of, content_of, calls_of, faults_of, fault_limit, call_limit, failed, logged}
 use Rattle.store_memory.specs.CallsMade.{IsCall}
 use Rattle.store_memory.proofs.Trail.{content_stays, content_after, places_stay}
 

@@ -1,7 +1,6 @@
 use Rattle.std.proofs.Common.{◌≡◌, ℕ, ◌+◌, ◌≤◌, Bool, true, false, T, cond, not, ◌&&◌, List, [], ◌∷◌, ◌++◌, length, Option, Some, None, Result, Ok, Err, option_map, find, IfSome, IfOk, IsTrue, refl, sym, ap, ◌∙◌, subst, arith}
 use Rattle.std.specs.List.{list_all}
 use Rattle.std.specs.Ordering.{eq_by_cmp, is_eq}
-use Rattle.std.specs.declared.cmp.Ordering.{Ordering}
 use Rattle.std.specs.declared.cmp.Ordering.TheVariants.{Less, Equal, Greater}
 use Rattle.std.specs.FinMap.{empty, entries, get, remove, len-entries, len-empty, entries_sorted, get-entries, entries-insert, get-remove}
 use Rattle.std.specs.FinMap.Entries.{put, is_sorted, where_key, by_order, is_sorted-where_key, find-where_key, find-put, same_entries}
@@ -9,7 +8,7 @@ use Rattle.std.specs.FinMap.Entries.{find as value_of}
 use Rattle.std.specs.Cmp.{alike_right, tied_itself, eq_by_cmp_equiv}
 use Rattle.store_trait.specs.Names.{name_cmp, may_stand, may_hold}
 use Rattle.store_trait.specs.Contents.{Content, named, is_past}
-use Rattle.store_trait.specs.Edits.{Hit, put_under, may_leave}
+use Rattle.store_trait.specs.Edits.{Hit, may_leave}
 use Rattle.store_trait.specs.declared.name.Name.{Name}
 use Rattle.store_trait.specs.declared.cell.Cell.{Cell}
 use Rattle.store_trait.specs.declared.cell.Named.{Named}

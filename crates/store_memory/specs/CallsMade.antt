@@ -1,8 +1,8 @@
-use Rattle.std.specs.Prelude.{◌≡◌, ℕ, ◌↔◌, Bool, true, IsTrue, List, Result, OnOk, IsErrOf, is_some, option_map, Option}
+use Rattle.std.specs.Prelude.{◌≡◌, ◌↔◌, true, IsTrue, List, Result, OnOk, IsErrOf, is_some, option_map}
 use Rattle.std.specs.List.{list_all}
 use Rattle.std.specs.FinMap.{get, entries}
 use Rattle.store_trait.specs.Names.{may_stand}
-use Rattle.store_trait.specs.Contents.{Content, named, first_past}
+use Rattle.store_trait.specs.Contents.{named, first_past}
 use Rattle.store_trait.specs.Edits.{hit}
 use Rattle.store_trait.specs.Calls.{Exchange, Reads, Edits, Lists}
 use Rattle.store_trait.specs.declared.name.Name.{Name}

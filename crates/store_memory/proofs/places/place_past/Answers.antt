@@ -1,4 +1,4 @@
-use Rattle.std.proofs.Common.{◌≡◌, ℕ, suc, ◌+◌, sym, ap, ◌∙◌, slice_get, subst, arith}
+use Rattle.std.proofs.Common.{◌≡◌, suc, ◌+◌, sym, ap, ◌∙◌, slice_get, arith}
 use Rattle.store_trait.specs.Names.{name_cmp}
 use Rattle.store_memory.proofs.Search.{past_stands, past_goes}
 use Rattle.store_memory.proofs.places.place_past.Goals as goal
