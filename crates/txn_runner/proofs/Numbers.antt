@@ -1,6 +1,7 @@
 -- What the edits for a transaction use of nonces and of numbers.
 use Rattle.std.proofs.Common.{◌≡◌, ◌≢◌, ℕ, ℤ, pos, negsuc, zero, suc, ◌+◌, ◌+ℤ◌, ◌≤◌, ◌<◌, Bool, true, false, Option, Some, None, is_some, ◌⊎◌, inl, inr, ⊎_elim, unsigned_abs, refl, sym, ap, subst, ◌∙◌, arith}
 use Rattle.std.specs.FinMap.{get}
+use Rattle.std.proofs.Math.IntN.{+ℤ_one}
 use Rattle.doc_value.specs.declared.value.Value.{Value}
 use Rattle.txn_record.specs.declared.id.Token.{Token}
 use Rattle.txn_record.specs.declared.id.TxnId.{TxnId}
@@ -89,7 +90,10 @@ uses_add c key z = at_key c key (edit.AddToken z) 0 (⊎_elim
 one_more : (revno : ℤ) → unsigned_abs (revno +ℤ pos 1) ≤ unsigned_abs revno + 1
 one_more (pos n) = omega arith
 one_more (negsuc zero) = omega arith
-one_more (negsuc (suc n)) = omega arith
+one_more (negsuc (suc n)) = by (unsigned_abs (negsuc (suc n) +ℤ pos 1)) (ap unsigned_abs (+ℤ_one (negsuc (suc n))))
+  where
+    by : (m : ℕ) → m ≡ suc n → m ≤ suc (suc n) + 1
+    by m e = omega (arith, e)
 
 pub uses_update : (c : Content) (key : Key) (revno : ℤ) (z : Token) (update : Value) → Uses c (edited c (name.Doc key) (edit.Update revno z update)) 0 1 0 0
 uses_update c key revno z update = at_key c key (edit.Update revno z update) 1 (⊎_elim

@@ -20,9 +20,9 @@ abbrev pub number_at : Content → Key → ℕ
 number_at c key = size_of (doc_at c key)
 
 -- Calls that had so many nonces and numbers of each document to use, and leave so many of them.
-pub record Uses (old new : Content) (nonces numbers nonces_left numbers_left : ℕ) : Type 0 where
-  pub counter : counter new + nonces_left ≤ counter old + nonces
-  pub numbers : (key : Key) → number_at new key + numbers_left ≤ number_at old key + numbers
+pub record Uses (old new : Content) (had_nonces had_numbers left_nonces left_numbers : ℕ) : Type 0 where
+  pub counter : counter new + left_nonces ≤ counter old + had_nonces
+  pub numbers : (key : Key) → number_at new key + left_numbers ≤ number_at old key + had_numbers
 
 -- enough are left for that many transactions
 pub record Suffices (c : Content) (transactions : ℕ) : Type 0 where

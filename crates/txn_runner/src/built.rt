@@ -4,7 +4,6 @@
 ghost use Rattle.std.specs.Prelude.{◌≡◌, true, [], ◌∷◌};
 ghost use Rattle.txn_runner.specs.Built.{is_built, is_built_change, is_update};
 
-use crate::waiting::Waiting;
 use doc_update::Update;
 use txn_record::{Change, Op, Ops};
 
@@ -27,13 +26,13 @@ fn is_built_change(change: &Change) -> bool
     }
 }
 
-/// The one operation of a transaction.
-pub fn only(txn: &Waiting) -> &Op
-    requires { is_built txn.now.ops ≡ true }
-    ensures only { txn.now.ops ≡ result.now ∷ [] }
+/// The one operation of a transaction that can be settled.
+pub fn only(ops: &Ops) -> &Op
+    requires { is_built ops.now ≡ true }
+    ensures only { ops.now ≡ result.now ∷ [] }
     ensures built { is_built_change result.now.change ≡ true }
 {
-    match txn.ops.as_slice() {
+    match ops.as_slice() {
         [op] => op,
         _ => unreachable!(),
     }

@@ -15,7 +15,7 @@ mod steps;
 mod testing;
 mod waiting;
 
-pub use built::is_built;
+pub use built::{is_built, only};
 pub use error::StepError;
 pub use settling::settle;
 pub use stage::Stage;

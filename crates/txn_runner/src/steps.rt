@@ -113,7 +113,7 @@ pub fn queue<S: Store>(
     ensures call { OneCall S.tells S.content S.place S.calls S.faults store.old store.new result StepError.StoreFault }
 {
     let id = txn.id;
-    let name = Name::Doc(only(txn).key.copy(alloc)?);
+    let name = Name::Doc(only(&txn.ops).key.copy(alloc)?);
     let token = Token { id, nonce };
     match must_hit(alloc, store, id, name, Edit::AddToken { token }) {
         Ok(()) => Ok(Stage::Prepare { nonce }),
@@ -166,7 +166,7 @@ pub fn look<S: Store>(
     ensures suits { IfOk result (λ next. suits txn.now.ops next ≡ true) }
     ensures call { OneCall S.tells S.content S.place S.calls S.faults store.old store.new result StepError.StoreFault }
 {
-    let op = only(txn);
+    let op = only(&txn.ops);
     let key = op.key.copy(alloc)?;
     match read_document(alloc, store, txn.id, &op.key) {
         Ok(doc) if doc.revno.unsigned_abs() > LAST_REVNO => Err(StepError::RevnoSpent { key }),
@@ -239,7 +239,7 @@ fn apply<S: Store>(
         Ok(()) => {
             entry.at = store.calls();
             match order.push(entry) {
-                Ok(()) => Ok(after_decision(only(txn), nonce, revno)),
+                Ok(()) => Ok(after_decision(only(&txn.ops), nonce, revno)),
                 Err(_) => unreachable!(),
             }
         }
@@ -338,7 +338,7 @@ pub fn update<S: Store>(
     ensures suits { IfOk result (λ next. suits txn.now.ops next ≡ true) }
     ensures call { OneCall S.tells S.content S.place S.calls S.faults store.old store.new result StepError.StoreFault }
 {
-    let op = only(txn);
+    let op = only(&txn.ops);
     let name = Name::Doc(op.key.copy(alloc)?);
     let update = update_of(op).copy(alloc)?;
     let token = Token { id: txn.id, nonce };

@@ -38,7 +38,9 @@ returns-clause-comes g c = λ told.
     (draw_ok _ _ (c.requires.worth told) c.in_ok-drawn.drawn.hit c.in_ok-drawn.drawn.cell _ (c.in_ok-drawn.ensures.hit told) (subst (λ (x : Content). c.in_ok-drawn.drawn.cell ≡ get x name.Nonce) made (c.in_ok-drawn.ensures.after told)) (sym (rw c.counter_in.ensures at c.in_ok-nonce.ensures)))
 
 pub returns-in_err-drawn-clause-uses : goal.returns-in_err-drawn-clause-uses
-returns-in_err-drawn-clause-uses g c = λ told. uses_within (uses_same _ _ (c.in_err-drawn.ensures.left told)) (omega arith) (omega arith)
+returns-in_err-drawn-clause-uses g c =
+    let p = err_from_is_err_and c.from_residual.result c.from_residual.ensures.1 in
+    λ told. rw p.1 (uses_within (uses_same _ _ (c.in_err-drawn.ensures.left told)) (omega arith) (omega arith))
 
 pub returns-in_err-nonce-clause-uses : goal.returns-in_err-nonce-clause-uses
 returns-in_err-nonce-clause-uses g c =
