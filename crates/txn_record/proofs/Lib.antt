@@ -1,3 +1,5 @@
+pub mod SoundReading
+pub mod ReadingLaws
 pub mod KeyOrder
 pub mod TokenTexts
 pub mod SortedEntries

@@ -110,35 +110,31 @@ is_there is_kind (Some value) = is_kind (out-Value value)
 abbrev pub is_removal : Value → Bool
 is_removal value = is_there is_true (remove_field value)
 
-abbrev pub has_several_changes : Value → Bool
-has_several_changes value =
-    (is_some (insert_field value) && is_some (update_field value))
-    || ((is_some (insert_field value) || is_some (update_field value)) && is_removal value)
-
-abbrev pub has_any_part : Value → Bool
-has_any_part value = is_some (assert_field value) || is_some (insert_field value) || is_some (update_field value) || is_removal value
+abbrev pub has_several_changes : Option Value → Option Value → Bool → Bool
+has_several_changes insert update removal = (is_some insert && is_some update) || ((is_some insert || is_some update) && removal)
 
 abbrev pub is_the_text : List ℕ → Value-F Value → Bool
 is_the_text word (Value-F.Text text) = bytes_eq text word
 is_the_text word _ = false
 
--- an assertion that stands beside an insertion is `d-`
-abbrev pub may_stand_with_insert : Value → Bool
-may_stand_with_insert value = if_there (is_the_text (codes "d-")) (assert_field value)
+-- an assertion beside an insertion is `d-`
+abbrev pub is_missing_or_absent : Option Value → Bool
+is_missing_or_absent assert = if_there (is_the_text (codes "d-")) assert
 
 abbrev pub is_too_deep : Option Value → Bool
 is_too_deep None = false
 is_too_deep (Some value) = nat_lt 90 (nesting value)
 
-abbrev pub has_deep_part : Value → Bool
-has_deep_part value = is_too_deep (assert_field value) || is_too_deep (insert_field value) || is_too_deep (update_field value)
+abbrev pub is_some_too_deep : Option Value → Option Value → Option Value → Bool
+is_some_too_deep assert insert update = is_too_deep assert || is_too_deep insert || is_too_deep update
 
-abbrev pub fault_of_parts : Value → Option OpFault
-fault_of_parts value =
-    if has_several_changes value then Some SeveralChanges
-    else (if not (has_any_part value) then Some NothingSet
-    else (if is_some (insert_field value) && not (may_stand_with_insert value) then Some InsertAssert
-    else (if has_deep_part value then Some TooDeep else None)))
+-- the first fault in which parts an operation has, or in how deep they are
+abbrev pub fault_of_parts : Option Value → Option Value → Option Value → Bool → Option OpFault
+fault_of_parts assert insert update removal =
+    if has_several_changes insert update removal then Some SeveralChanges
+    else (if not (is_some assert || is_some insert || is_some update || removal) then Some NothingSet
+    else (if is_some insert && not (is_missing_or_absent assert) then Some InsertAssert
+    else (if is_some_too_deep assert insert update then Some TooDeep else None)))
 
 -- ---- its change and its assertion
 
@@ -173,12 +169,16 @@ op_of key (Ok change) (Ok assert) = Ok (record { key = key; assert = assert; cha
 op_of key (Ok change) (Err why) = Err why
 op_of key (Err why) assert = Err why
 
-abbrev pub op_of_parts : Value → Key → Option OpFault → Result Op OpFault
-op_of_parts value key (Some why) = Err why
-op_of_parts value key None = op_of key (change_of key.d (insert_field value) (update_field value) (is_removal value)) (assert_of (assert_field value))
+abbrev pub unless_fault : {A : Type 0} → Option OpFault → Result A OpFault → Result A OpFault
+unless_fault (Some why) answer = Err why
+unless_fault None answer = answer
+
+abbrev pub op_of_parts : Key → Option Value → Option Value → Option Value → Bool → Result Op OpFault
+op_of_parts key assert insert update removal =
+    unless_fault (fault_of_parts assert insert update removal) (op_of key (change_of key.d insert update removal) (assert_of assert))
 
 abbrev pub op_at : Value → Result Key OpFault → Result Op OpFault
-op_at value (Ok key) = op_of_parts value key (fault_of_parts value)
+op_at value (Ok key) = op_of_parts key (assert_field value) (insert_field value) (update_field value) (is_removal value)
 op_at value (Err why) = Err why
 
 -- the operation that a value is, or its first fault

@@ -1,5 +1,5 @@
 -- What a list of operations is when it is a transaction.
-use Rattle.std.specs.Prelude.{◌≡◌, ◌≤◌, ℕ, Bool, true, false, not, nat_lt, List, length, Ok}
+use Rattle.std.specs.Prelude.{◌≡◌, ◌≤◌, Bool, true, false, not, nat_lt, List, length, Ok}
 use Rattle.std.specs.List.{All}
 use Rattle.doc_query.specs.Reading.{is_query}
 use Rattle.doc_update.specs.Reading.{is_update}
@@ -26,6 +26,11 @@ is_shallow value = not (nat_lt 90 (nesting value))
 -- the body of any document: it has no `_id`, and nothing that a body may not have
 abbrev pub IsBody : Value → Type 0
 IsBody value = (id : DocId) → body_in id value ≡ Ok value
+
+-- what is inserted, if anything
+abbrev pub InsertsBody : Change → Type 0
+InsertsBody (change.Insert body) = IsBody body
+InsertsBody _ = Unit {0}
 
 abbrev pub IsSoundAssert : Assert → Type 0
 IsSoundAssert assertion.Nothing = Unit {0}

@@ -1,11 +1,18 @@
-ghost use Rattle.std.specs.Prelude.{◌≡◌, IfOk};
-ghost use Rattle.txn_record.specs.Transactions.{IsTransaction};
+ghost use Rattle.std.specs.Prelude.{◌≡◌, ◌≢◌, ◌≤◌, length, IfOk, Err};
+ghost use Rattle.std.specs.List.{All};
+ghost use Rattle.txn_record.specs.Reading.{ops_in, ops_from, op_in, numbered};
+ghost use Rattle.txn_record.specs.Transactions.{IsTransaction, IsSoundOp};
 
+use crate::fault::{OpsFault, Refusal};
 use crate::op::Op;
-use doc_value::OutOfMemory;
+use crate::read::read_op;
+use doc_value::{OutOfMemory, Value};
 use sqlite_items::Items;
 use std::alloc::Global;
 use std::marker::Model;
+
+/// The most operations of a transaction.
+const MAX_OPS: usize = 1000;
 
 /// The operations of a transaction, in order. Contracts see their list.
 #[derive(Drop)]
@@ -30,6 +37,25 @@ impl Model for Ops {
 }
 
 impl Ops {
+    /// Reads the operations of a transaction: 1 to 1,000 in a list. Operations are tested in turn, and the
+    /// first that is faulty is named.
+    pub fn read(alloc: Global, value: &Value) -> Result<Ops, OpsFault>
+        ensures exact { result ≢ Err OpsFault.OutOfMemory → result ≡ ops_in value.now }
+    {
+        let Value::List(values) = value else {
+            return Err(OpsFault::NotList);
+        };
+        let values = values.as_slice();
+        if values.is_empty() {
+            return Err(OpsFault::Empty);
+        }
+        if values.len() > MAX_OPS {
+            return Err(OpsFault::TooMany);
+        }
+        let list = read_all(alloc, values)?;
+        Ok(Ops { list })
+    }
+
     /// The operations, in order.
     pub fn as_slice(&self) -> &[Op]
         ensures list { result.now ≡ self.now }
@@ -48,5 +74,32 @@ impl Ops {
             list.push(op.copy(alloc)?)?;
         }
         Ok(Ops { list })
+    }
+}
+
+/// The values as operations, counted from 0.
+fn read_all(alloc: Global, values: &[Value]) -> Result<Items<Op>, OpsFault>
+    requires { length values.now ≤ 1000 }
+    ensures exact { result ≢ Err OpsFault.OutOfMemory → result ≡ ops_from 0 values.now }
+    ensures sound { IfOk result (λ ops. All IsSoundOp ops) }
+    ensures count { IfOk result (λ ops. length ops ≡ length values.now) }
+{
+    let mut list = Items::new(alloc);
+    let mut op = 0;
+    for value in values {
+        list.push(read_numbered(alloc, op, value)?)?;
+        op += 1;
+    }
+    Ok(list)
+}
+
+fn read_numbered(alloc: Global, op: u32, value: &Value) -> Result<Op, OpsFault>
+    ensures exact { result ≢ Err OpsFault.OutOfMemory → result ≡ numbered op (op_in value.now) }
+    ensures sound { IfOk result IsSoundOp }
+{
+    match read_op(alloc, value) {
+        Ok(read) => Ok(read),
+        Err(Refusal::Fault(why)) => Err(OpsFault::At { op, why }),
+        Err(Refusal::OutOfMemory) => Err(OpsFault::OutOfMemory),
     }
 }

@@ -5,8 +5,8 @@ ghost use Rattle.doc_query.specs.Reading.{query_in};
 ghost use Rattle.doc_update.specs.Reading.{update_in};
 ghost use Rattle.doc_value.specs.Bodies.{body_in};
 ghost use Rattle.doc_value.specs.declared.value.Value.{out-Value};
-ghost use Rattle.txn_record.specs.Reading.{Reads, op_in, has_form, has_only_fields, are_fields, is_field_name, collection_field, id_field, assert_field, insert_field, update_field, key_of, is_empty_text, is_removal, fault_of_parts, may_stand_with_insert, has_deep_part, is_too_deep, is_the_text, change_of, assert_of, or_bad_insert, or_bad_update, or_bad_assert};
-ghost use Rattle.txn_record.specs.Transactions.{IsSoundOp, IsSoundAssert, IsSoundChange};
+ghost use Rattle.txn_record.specs.Reading.{Reads, op_in, has_form, has_only_fields, are_fields, is_field_name, collection_field, id_field, assert_field, insert_field, update_field, key_of, is_empty_text, is_removal, fault_of_parts, has_several_changes, is_missing_or_absent, is_some_too_deep, is_too_deep, is_the_text, change_of, assert_of, or_bad_insert, or_bad_update, or_bad_assert};
+ghost use Rattle.txn_record.specs.Transactions.{IsSoundOp, InsertsBody};
 
 use crate::fault::{OpFault, Refusal};
 use crate::key::Key;
@@ -21,7 +21,8 @@ const MAX_PART_NESTING: u32 = 90;
 
 /// The operation that the value is, or its first fault.
 pub(crate) fn read_op(alloc: Global, value: &Value) -> Result<Op, Refusal>
-    ensures { Reads result (op_in value.now) }
+    ensures exact { Reads result (op_in value.now) }
+    ensures sound { IfOk result IsSoundOp }
 {
     if !has_form(value) {
         return Err(Refusal::Fault(OpFault::BadOperation));
@@ -105,24 +106,37 @@ fn is_empty_text(value: &Value) -> bool
 
 /// The first fault in which parts stand together, or in how deep they are.
 fn fault_of_parts(value: &Value) -> Option<OpFault>
-    ensures { result ≡ fault_of_parts value.now }
+    ensures { result ≡ fault_of_parts (assert_field value.now) (insert_field value.now) (update_field value.now) (is_removal value.now) }
 {
-    let inserts = value.field(b"i").is_some();
-    let updates = value.field(b"u").is_some();
+    let assert = value.field(b"a");
+    let insert = value.field(b"i");
+    let update = value.field(b"u");
     let removes = is_removal(value);
-    if (inserts && updates) || ((inserts || updates) && removes) {
+    if has_several_changes(insert, update, removes) {
         return Some(OpFault::SeveralChanges);
     }
-    if !(value.field(b"a").is_some() || inserts || updates || removes) {
+    if !(assert.is_some() || insert.is_some() || update.is_some() || removes) {
         return Some(OpFault::NothingSet);
     }
-    if inserts && !may_stand_with_insert(value) {
+    if insert.is_some() && !is_missing_or_absent(assert) {
         return Some(OpFault::InsertAssert);
     }
-    if has_deep_part(value) {
+    if is_some_too_deep(assert, insert, update) {
         return Some(OpFault::TooDeep);
     }
     None
+}
+
+fn has_several_changes(insert: Option<&Value>, update: Option<&Value>, removes: bool) -> bool
+    ensures { result ≡ has_several_changes (option_copied insert.entry) (option_copied update.entry) removes }
+{
+    (insert.is_some() && update.is_some()) || ((insert.is_some() || update.is_some()) && removes)
+}
+
+fn is_some_too_deep(assert: Option<&Value>, insert: Option<&Value>, update: Option<&Value>) -> bool
+    ensures { result ≡ is_some_too_deep (option_copied assert.entry) (option_copied insert.entry) (option_copied update.entry) }
+{
+    is_too_deep(assert) || is_too_deep(insert) || is_too_deep(update)
 }
 
 fn is_removal(value: &Value) -> bool
@@ -131,21 +145,13 @@ fn is_removal(value: &Value) -> bool
     matches!(value.field(b"r"), Some(Value::Bool(true)))
 }
 
-fn may_stand_with_insert(value: &Value) -> bool
-    ensures { result ≡ may_stand_with_insert value.now }
+fn is_missing_or_absent(assert: Option<&Value>) -> bool
+    ensures { result ≡ is_missing_or_absent (option_copied assert.entry) }
 {
-    match value.field(b"a") {
-        Some(assert) => is_the_text(assert, b"d-"),
+    match assert {
+        Some(value) => is_the_text(value, b"d-"),
         None => true,
     }
-}
-
-fn has_deep_part(value: &Value) -> bool
-    ensures { result ≡ has_deep_part value.now }
-{
-    is_too_deep(value.field(b"a"))
-        || is_too_deep(value.field(b"i"))
-        || is_too_deep(value.field(b"u"))
 }
 
 fn is_too_deep(part: Option<&Value>) -> bool
@@ -168,7 +174,8 @@ fn is_the_text(value: &Value, word: &[u8]) -> bool
 
 /// The change that `i`, `u` and `r` ask for, where no two of them do.
 fn read_change(alloc: Global, id: &DocId, value: &Value) -> Result<Change, Refusal>
-    ensures { Reads result (change_of id.now (insert_field value.now) (update_field value.now) (is_removal value.now)) }
+    ensures exact { Reads result (change_of id.now (insert_field value.now) (update_field value.now) (is_removal value.now)) }
+    ensures body { IfOk result InsertsBody }
 {
     match (value.field(b"i"), value.field(b"u")) {
         (Some(insert), _) => read_insert(alloc, id, insert),
@@ -184,7 +191,8 @@ fn read_change(alloc: Global, id: &DocId, value: &Value) -> Result<Change, Refus
 }
 
 fn read_insert(alloc: Global, id: &DocId, value: &Value) -> Result<Change, Refusal>
-    ensures { Reads result (or_bad_insert (body_in id.now value.now)) }
+    ensures exact { Reads result (or_bad_insert (body_in id.now value.now)) }
+    ensures body { IfOk result InsertsBody }
 {
     match read_body(alloc, value, id) {
         Ok(body) => Ok(Change::Insert(body)),
@@ -194,7 +202,8 @@ fn read_insert(alloc: Global, id: &DocId, value: &Value) -> Result<Change, Refus
 }
 
 fn read_update(alloc: Global, value: &Value) -> Result<Change, Refusal>
-    ensures { Reads result (or_bad_update (update_in value.now)) }
+    ensures exact { Reads result (or_bad_update (update_in value.now)) }
+    ensures body { IfOk result InsertsBody }
 {
     match Update::read(alloc, value) {
         Ok(update) => Ok(Change::Update(update)),

@@ -1,35 +1,35 @@
 ghost use Rattle.std.specs.Prelude.{◌≡◌, ◌≢◌, IfOk, Err};
 ghost use Rattle.std.specs.List.{list_all};
+ghost use Rattle.std.specs.Option.{option_copied};
 ghost use Rattle.doc_value.specs.declared.value.Value.{out-Value};
-ghost use Rattle.txn_script.specs.Statements.{is_skipped, is_blank_byte, line_in, statement_of_value, statement_of_pair, statement_of_field, submission_in, doc_in, go_in, show_in};
-ghost use Rattle.txn_script.specs.declared.statement.ScriptFault.TheVariants.{OutOfMemory as NoMemory};
+ghost use Rattle.txn_script.specs.Statements.{is_skipped, is_blank_byte, line_in, statement_of_value, statement_of_fields, is_named, submission_in, id_in, is_too_deep, doc_in, key_of, go_in, show_in};
 
-use doc_value::{BodyFault, Field, OutOfMemory, Value, ValueFault, read_body, read_value};
-use std::alloc::{AllocError, Global};
+use crate::fault::ScriptFault;
+use doc_value::{BodyFault, Field, OutOfMemory, Value, read_body, read_value};
+use std::alloc::Global;
 use txn_record::{Key, Ops, TxnId};
+
+/// The deepest nesting of lists and objects in what is noted with a transaction.
+const MAX_INFO_NESTING: u32 = 90;
 
 /// A statement of a script, of the forms built so far.
 #[derive(Drop)]
 pub enum Statement {
-    Doc { key: Key, body: Value },
-    Submit { id: TxnId, ops: Ops },
+    /// Places a document with this body.
+    Doc {
+        key: Key,
+        body: Value,
+    },
+    /// Adds a transaction to the batch.
+    Submit {
+        id: TxnId,
+        ops: Ops,
+        info: Option<Value>,
+    },
+    /// Runs the batch.
     Go,
+    /// Prints the documents.
     Show,
-}
-
-/// Why a line is no statement.
-#[derive(Clone, Copy, Debug, PartialEq, Eq)]
-pub enum ScriptFault {
-    NotBuilt,
-    OutOfMemory,
-}
-
-impl From<AllocError> for ScriptFault {
-    ghost from_gives = { λ _ fault. fault ≡ NoMemory };
-
-    fn from(_: AllocError) -> ScriptFault {
-        ScriptFault::OutOfMemory
-    }
 }
 
 /// The statement of a line, or None where the line is blank or a comment.
@@ -39,15 +39,9 @@ pub fn read_line(alloc: Global, bytes: &[u8]) -> Result<Option<Statement>, Scrip
     if is_skipped(bytes) {
         return Ok(None);
     }
-    let value = match read_value(alloc, bytes) {
-        Ok(value) => value,
-        Err(ValueFault::OutOfMemory) => return Err(ScriptFault::OutOfMemory),
-        Err(_) => return Err(ScriptFault::NotBuilt),
-    };
-    match statement_of_value(alloc, &value)? {
-        Some(statement) => Ok(Some(statement)),
-        None => Err(ScriptFault::NotBuilt),
-    }
+    let value = read_value(alloc, bytes)?;
+    let statement = read_statement(alloc, &value)?;
+    Ok(Some(statement))
 }
 
 /// Blanks, tabs and carriage returns alone, or a comment.
@@ -75,101 +69,132 @@ fn is_blank_byte(byte: u8) -> bool
     byte == b' ' || byte == b'\t' || byte == b'\r'
 }
 
-fn statement_of_value(alloc: Global, value: &Value) -> Result<Option<Statement>, OutOfMemory>
-    ensures { IfOk result (λ read. read ≡ statement_of_value (out-Value value.now)) }
-{
-    let Value::Object(fields) = value else {
-        return Ok(None);
-    };
-    match fields.as_slice() {
-        [field] => Ok(statement_of_field(field)),
-        [first, second] => statement_of_pair(alloc, first, second),
-        _ => Ok(None),
-    }
-}
-
-fn statement_of_field(field: &Field) -> Option<Statement>
-    ensures { result ≡ statement_of_field field.now }
-{
-    let name = field.name.as_bytes();
-    if name == b"go".as_slice() {
-        read_go(&field.value)
-    } else if name == b"show".as_slice() {
-        read_show(&field.value)
-    } else {
-        None
-    }
-}
-
-fn read_go(plan: &Value) -> Option<Statement>
-    ensures { result ≡ go_in (out-Value plan.now) }
-{
-    match plan {
-        Value::Object(fields) => match fields.as_slice() {
-            [] => Some(Statement::Go),
-            _ => None,
-        },
-        _ => None,
-    }
-}
-
-fn read_show(value: &Value) -> Option<Statement>
-    ensures { result ≡ show_in (out-Value value.now) }
+fn read_statement(alloc: Global, value: &Value) -> Result<Statement, ScriptFault>
+    ensures { result ≢ Err ScriptFault.OutOfMemory → result ≡ statement_of_value (out-Value value.now) }
 {
     match value {
-        Value::Bool(true) => Some(Statement::Show),
-        _ => None,
+        Value::Object(fields) => read_fields(alloc, fields.as_slice()),
+        _ => Err(ScriptFault::NotBuilt),
     }
 }
 
-/// Of two fields in byte order of their names.
-fn statement_of_pair(
-    alloc: Global,
-    first: &Field,
-    second: &Field,
-) -> Result<Option<Statement>, OutOfMemory>
-    ensures { IfOk result (λ read. read ≡ statement_of_pair first.now second.now) }
+/// The fields stand in byte order of their names.
+fn read_fields(alloc: Global, fields: &[Field]) -> Result<Statement, ScriptFault>
+    ensures { result ≢ Err ScriptFault.OutOfMemory → result ≡ statement_of_fields fields.now }
 {
-    let (one, other) = (first.name.as_bytes(), second.name.as_bytes());
-    if one == b"body".as_slice() && other == b"doc".as_slice() {
-        read_doc(alloc, &first.value, &second.value)
-    } else if one == b"ops".as_slice() && other == b"txn".as_slice() {
-        read_submission(alloc, &first.value, &second.value)
-    } else {
-        Ok(None)
+    match fields {
+        [body, doc] if is_named(body, b"body") && is_named(doc, b"doc") => {
+            read_doc(alloc, &doc.value, &body.value)
+        }
+        [ops, txn] if is_named(ops, b"ops") && is_named(txn, b"txn") => {
+            read_submission(alloc, &txn.value, None, &ops.value)
+        }
+        [info, ops, txn]
+            if is_named(info, b"info") && is_named(ops, b"ops") && is_named(txn, b"txn") => {
+            read_submission(alloc, &txn.value, Some(&info.value), &ops.value)
+        }
+        [go] if is_named(go, b"go") => read_go(&go.value),
+        [show] if is_named(show, b"show") => read_show(&show.value),
+        _ => Err(ScriptFault::NotBuilt),
     }
 }
 
-fn read_doc(alloc: Global, body: &Value, place: &Value) -> Result<Option<Statement>, OutOfMemory>
-    ensures { IfOk result (λ read. read ≡ doc_in body.now (out-Value place.now)) }
+fn is_named(field: &Field, name: &[u8]) -> bool
+    ensures { result ≡ is_named field.now name.now }
+{
+    field.name.as_bytes() == name
+}
+
+fn read_doc(alloc: Global, place: &Value, body: &Value) -> Result<Statement, ScriptFault>
+    ensures { result ≢ Err ScriptFault.OutOfMemory → result ≡ doc_in place.now body.now }
+{
+    let Some(key) = read_key(alloc, place)? else {
+        return Err(ScriptFault::BadBody);
+    };
+    match read_body(alloc, body, &key.d) {
+        Ok(body) => Ok(Statement::Doc { key, body }),
+        Err(BodyFault::OutOfMemory) => Err(ScriptFault::OutOfMemory),
+        Err(_) => Err(ScriptFault::BadBody),
+    }
+}
+
+/// The key that a list of a collection and an id names.
+fn read_key(alloc: Global, place: &Value) -> Result<Option<Key>, OutOfMemory>
+    ensures { IfOk result (λ key. key ≡ key_of (out-Value place.now)) }
 {
     let Value::List(parts) = place else {
         return Ok(None);
     };
-    let [c, d] = parts.as_slice() else {
-        return Ok(None);
-    };
-    let Some(key) = Key::read(alloc, c, d)? else {
-        return Ok(None);
-    };
-    match read_body(alloc, body, &key.d) {
-        Ok(body) => Ok(Some(Statement::Doc { key, body })),
-        Err(BodyFault::OutOfMemory) => Err(AllocError),
-        Err(_) => Ok(None),
+    match parts.as_slice() {
+        [c, d] => Key::read(alloc, c, d),
+        _ => Ok(None),
     }
 }
 
-fn read_submission(alloc: Global, ops: &Value, id: &Value) -> Result<Option<Statement>, OutOfMemory>
-    ensures { IfOk result (λ read. read ≡ submission_in ops.now (out-Value id.now)) }
+fn read_submission(
+    alloc: Global,
+    id: &Value,
+    info: Option<&Value>,
+    ops: &Value,
+) -> Result<Statement, ScriptFault>
+    ensures { result ≢ Err ScriptFault.OutOfMemory
+        → result ≡ submission_in id.now (option_copied info.entry) ops.now }
 {
-    let Value::Text(text) = id else {
-        return Ok(None);
+    let Some(id) = read_id(id) else {
+        return Err(ScriptFault::BadId);
     };
-    let Some(id) = TxnId::read(text.as_bytes()) else {
-        return Ok(None);
-    };
-    match Ops::read(alloc, ops)? {
-        Some(ops) => Ok(Some(Statement::Submit { id, ops })),
+    if is_too_deep(info) {
+        return Err(ScriptFault::BadInfo);
+    }
+    let ops = Ops::read(alloc, ops)?;
+    let info = copy_info(alloc, info)?;
+    Ok(Statement::Submit { id, ops, info })
+}
+
+fn read_id(id: &Value) -> Option<TxnId>
+    ensures { result ≡ id_in (out-Value id.now) }
+{
+    match id {
+        Value::Text(text) => TxnId::read(text.as_bytes()),
+        _ => None,
+    }
+}
+
+fn is_too_deep(info: Option<&Value>) -> bool
+    ensures { result ≡ is_too_deep (option_copied info.entry) }
+{
+    match info {
+        Some(info) => info.is_deeper_than(MAX_INFO_NESTING),
+        None => false,
+    }
+}
+
+fn copy_info(alloc: Global, info: Option<&Value>) -> Result<Option<Value>, OutOfMemory>
+    ensures { IfOk result (λ copy. copy ≡ option_copied info.entry) }
+{
+    match info {
+        Some(info) => Ok(Some(info.copy(alloc)?)),
         None => Ok(None),
+    }
+}
+
+fn read_go(plan: &Value) -> Result<Statement, ScriptFault>
+    ensures { result ≡ go_in (out-Value plan.now) }
+{
+    let Value::Object(fields) = plan else {
+        return Err(ScriptFault::NotBuilt);
+    };
+    if !fields.as_slice().is_empty() {
+        return Err(ScriptFault::NotBuilt);
+    }
+    Ok(Statement::Go)
+}
+
+fn read_show(value: &Value) -> Result<Statement, ScriptFault>
+    ensures { result ≡ show_in (out-Value value.now) }
+{
+    match value {
+        Value::Bool(true) => Ok(Statement::Show),
+        _ => Err(ScriptFault::NotBuilt),
     }
 }
