@@ -1,6 +1,8 @@
 pub mod SoundReading
 pub mod ReadingLaws
 pub mod KeyOrder
+pub mod KeyPlaces
+pub mod KeySets
 pub mod TokenTexts
 pub mod SortedEntries
 pub mod DocLists

@@ -6,4 +6,6 @@ pub mod Documents
 pub mod Operations
 pub mod Reading
 pub mod Revnos
+pub mod Chain
+pub mod Places
 pub mod Walks

@@ -6,11 +6,13 @@ mod entry;
 mod fault;
 mod id;
 mod key;
+mod keys;
 mod laws;
 mod op;
 mod ops;
 mod read;
 mod record;
+mod revnos;
 mod state;
 
 pub use docs::{Doc, Docs};
@@ -22,4 +24,5 @@ pub use laws::{changes_are_local, documents_rise, operations_alone, orders_grow}
 pub use op::{Assert, Change, Op};
 pub use ops::Ops;
 pub use record::Record;
+pub use revnos::{Chained, chain};
 pub use state::State;
