@@ -1,13 +1,13 @@
 -- Keys that rise as a set.
-use Rattle.std.proofs.Common.{◌≡◌, ℕ, zero, suc, Bool, true, false, ◌&&◌, T, List, [], ◌∷◌, map, refl, sym, ap, ◌∙◌, subst}
-use Rattle.std.specs.FinMap.{FinMap, entries, insert, empty, from_sorted, is_sorted, put, keys, same_entries_map, entries-from_sorted, entries-insert, entries_sorted}
-use Rattle.std.specs.FinMap.Entries.{below_all, by_order, is_sorted-put}
+use Rattle.std.proofs.Common.{◌≡◌, ℕ, zero, suc, Bool, true, false, ◌&&◌, T, List, [], ◌∷◌, map, refl, sym, ap, ◌∙◌}
+use Rattle.std.specs.FinMap.{entries, insert, empty, is_sorted, put, keys, same_entries_map, entries-insert, entries_sorted}
+use Rattle.std.specs.FinMap.Entries.{below_all, by_order}
 use Rattle.std.specs.List.{insert as insert_at}
 use Rattle.std.specs.Ordering.{is_lt}
 use Rattle.std.specs.declared.cmp.Ordering.{Ordering}
 use Rattle.txn_record.proofs.KeyOrder.{key_cmp_total}
 use Rattle.txn_record.proofs.SortedEntries.{from_sorted-nil, entries_of_sorted}
-use Rattle.txn_record.specs.Chain.{KeySet, marked, set_of}
+use Rattle.txn_record.specs.Chain.{marked, set_of}
 use Rattle.txn_record.specs.Keys.{key_cmp}
 use Rattle.txn_record.specs.Places.{GoesAt, StandsAt, below_each, keys_rise}
 use Rattle.txn_record.specs.declared.key.Key.{Key}

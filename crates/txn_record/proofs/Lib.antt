@@ -1,6 +1,8 @@
 pub mod SoundReading
 pub mod ReadingLaws
 pub mod KeyOrder
+pub mod NumberSizes
+pub mod ChainSteps
 pub mod KeyPlaces
 pub mod KeySets
 pub mod TokenTexts

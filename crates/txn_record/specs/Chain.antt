@@ -1,7 +1,7 @@
 -- The revision numbers that operations find and leave, run in order.
-use Rattle.std.specs.Prelude.{◌≡◌, ◌≤◌, ℕ, Bool, true, false, ◌||◌, nat_le, ℤ, negsuc, unsigned_abs, unwrap_or, map, List, [], ◌∷◌, length}
+use Rattle.std.specs.Prelude.{Bool, false, ◌||◌, nat_le, ℤ, negsuc, unsigned_abs, unwrap_or, map, List, [], ◌∷◌}
 use Rattle.std.specs.FinMap.{FinMap, get, insert, keys, empty, from_sorted}
-use Rattle.std.specs.List.{All, zip}
+use Rattle.std.specs.List.{zip}
 use Rattle.txn_record.specs.Keys.{key_cmp}
 use Rattle.txn_record.specs.Revnos.{number_after, same_key}
 use Rattle.txn_record.specs.declared.key.Key.{Key}
@@ -40,9 +40,13 @@ Numbers = FinMap key_cmp ℤ
 abbrev pub number_at : Key → Numbers → ℤ
 number_at key numbers = unwrap_or (get numbers key) (negsuc 0)
 
--- one number for each distinct key, in key order
+-- keys that rise, each with the number beside it
+abbrev pub numbers_at : List Key → List ℤ → Numbers
+numbers_at keys numbers = from_sorted (zip keys numbers)
+
+-- one number for each distinct key of the operations, in key order
 abbrev pub numbers_of : List Op → List ℤ → Numbers
-numbers_of ops first = from_sorted (zip (keys_of ops) first)
+numbers_of ops first = numbers_at (keys_of ops) first
 
 abbrev pub numbers_after_op : Op → Numbers → Numbers
 numbers_after_op op numbers = insert numbers op.key (number_after op.change (number_at op.key numbers))

@@ -14,7 +14,8 @@ use std::alloc::Global;
 
 /// The distinct keys of the operations, in key order.
 pub(crate) fn distinct_keys(alloc: Global, ops: &[Op]) -> Result<Items<Key>, OutOfMemory>
-    ensures { IfOk result (λ keys. keys ≡ keys_of ops.now) }
+    ensures all { IfOk result (λ keys. keys ≡ keys_of ops.now) }
+    ensures rise { IfOk result (λ keys. keys_rise keys ≡ true) }
 {
     let mut keys = Vec::new(alloc);
     for op in ops {

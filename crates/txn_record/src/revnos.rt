@@ -1,12 +1,14 @@
 //! The chain of revision numbers that operations find and leave.
-ghost use Rattle.std.specs.Prelude.{◌≡◌, ◌<◌, true, length, unsigned_abs, IfOk};
-ghost use Rattle.std.specs.List.{list_all};
+ghost use Rattle.std.specs.Prelude.{◌≡◌, ◌<◌, ◌≤◌, true, length, unsigned_abs, IfOk};
+ghost use Rattle.std.specs.List.{All, list_all, list_any};
 ghost use Rattle.std.specs.FinMap.{values};
-ghost use Rattle.txn_record.specs.Chain.{keys_of, numbers_of, numbers_after, found_by, has_room};
-ghost use Rattle.txn_record.specs.Revnos.{number_after};
+ghost use Rattle.txn_record.specs.Chain.{keys_of, numbers_of, numbers_at, numbers_after, found_by, has_room};
+ghost use Rattle.txn_record.specs.Places.{keys_rise};
+ghost use Rattle.txn_record.specs.Revnos.{number_after, same_key};
 
+use crate::key::Key;
 use crate::keys::{distinct_keys, place_of};
-use crate::op::Change;
+use crate::op::{Change, Op};
 use crate::ops::Ops;
 use doc_value::OutOfMemory;
 use sqlite_items::Items;
@@ -29,12 +31,24 @@ pub fn chain(alloc: Global, ops: &Ops, first: &[i64]) -> Result<Chained, OutOfMe
     ensures found { IfOk result (λ chained. chained.found ≡ found_by ops.now (numbers_of ops.now first.now)) }
     ensures last { IfOk result (λ chained. chained.last ≡ values (numbers_after ops.now (numbers_of ops.now first.now))) }
 {
-    let ops = ops.as_slice();
-    let keys = distinct_keys(alloc, ops)?;
+    let keys = distinct_keys(alloc, ops.as_slice())?;
+    follow(alloc, ops.as_slice(), keys.as_slice(), first)
+}
+
+/// The same, where the keys are given.
+fn follow(alloc: Global, ops: &[Op], keys: &[Key], first: &[i64]) -> Result<Chained, OutOfMemory>
+    requires few { length ops.now ≤ 1000 }
+    requires rise { keys_rise keys.now ≡ true }
+    requires there { All (λ op. list_any (same_key op.key) keys.now ≡ true) ops.now }
+    requires count { length first.now ≡ length keys.now }
+    requires room { list_all has_room first.now ≡ true }
+    ensures found { IfOk result (λ chained. chained.found ≡ found_by ops.now (numbers_at keys.now first.now)) }
+    ensures last { IfOk result (λ chained. chained.last ≡ values (numbers_after ops.now (numbers_at keys.now first.now))) }
+{
     let mut last = Items::from_slice(alloc, first)?;
     let mut found = Items::new(alloc);
     for op in ops {
-        let place = place_of(keys.as_slice(), &op.key);
+        let place = place_of(keys, &op.key);
         let number = last.as_slice()[place];
         found.push(number)?;
         last.set(place, number_after(&op.change, number));

@@ -15,8 +15,8 @@ loop-op-init c =
       rise = ap keys_rise none;
     }
 
-pub returns : goal.returns
-returns c =
+pub returns-clause-all : goal.returns-clause-all
+returns-clause-all c =
     let loop = c.loop-op in
     let ended = at_drop_all (λ (ops : List Op). with_keys ops (set_of loop.keys.items)) c.args.ops.now loop.op-index c.loop-op-test.false in
     c.from_vec.ensures ∙ sym (keys_of_set loop.keys.items loop.invariant.rise) ∙ ap (λ (set : KeySet). keys set) (sym ended ∙ loop.invariant.so_far)
