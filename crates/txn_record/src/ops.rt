@@ -1,9 +1,12 @@
 ghost use Rattle.std.specs.Prelude.{◌≡◌, ◌≢◌, ◌≤◌, length, IfOk, Err};
 ghost use Rattle.std.specs.List.{All};
+ghost use Rattle.txn_record.specs.Chain.{keys_of};
 ghost use Rattle.txn_record.specs.Reading.{ops_in, ops_from, op_in, numbered};
 ghost use Rattle.txn_record.specs.Transactions.{IsTransaction, IsSoundOp};
 
 use crate::fault::{OpsFault, Refusal};
+use crate::key::Key;
+use crate::keys::distinct_keys;
 use crate::op::Op;
 use crate::read::read_op;
 use doc_value::{OutOfMemory, Value};
@@ -62,6 +65,13 @@ impl Ops {
         ensures sound { IsTransaction self.now }
     {
         self.list.as_slice()
+    }
+
+    /// The distinct keys, in key order.
+    pub fn keys(&self, alloc: Global) -> Result<Items<Key>, OutOfMemory>
+        ensures { IfOk result (λ keys. keys ≡ keys_of self.now) }
+    {
+        distinct_keys(alloc, self.list.as_slice())
     }
 
     /// Equal operations.
