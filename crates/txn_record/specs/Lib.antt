@@ -5,6 +5,7 @@ pub mod Ids
 pub mod Documents
 pub mod Operations
 pub mod Reading
+pub mod Printing
 pub mod Revnos
 pub mod Chain
 pub mod Places

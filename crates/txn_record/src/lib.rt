@@ -10,6 +10,7 @@ mod keys;
 mod laws;
 mod op;
 mod ops;
+mod print;
 mod read;
 mod record;
 mod revnos;
