@@ -1,5 +1,5 @@
 -- Where nonces and numbers suffice, none is wanting; and where nothing else is amiss, nothing is.
-use Rattle.std.proofs.Common.{◌≡◌, ◌≢◌, ℕ, ◌+◌, ◌<◌, ◌≤◌, Bool, true, Option, Some, None, Result, Ok, Err, IfErr, tt, IsTrue, IfSome, List, length, ◌⊎◌, inl, inr, ⊎_elim, refl, sym, ap, subst, unsigned_abs, arith}
+use Rattle.std.proofs.Common.{◌≡◌, ◌≢◌, ℕ, ◌+◌, ◌<◌, ◌≤◌, Bool, true, Option, Some, None, Result, Ok, Err, IfErr, IsTrue, IfSome, List, length, ◌⊎◌, inl, inr, ⊎_elim, refl, sym, ap, subst, unsigned_abs, arith}
 use Rattle.store_trait.specs.Contents.{Content}
 use Rattle.txn_runner.specs.Numbers.{Uses, Suffices, size_of}
 use Rattle.txn_runner.specs.declared.error.StepError.{StepError}

@@ -16,6 +16,7 @@ use Rattle.store_laws.specs.Alone.{IsAtRest}
 use Rattle.store_laws.specs.Plain.{IsPlain}
 use Rattle.store_laws.specs.Trail.{IsRecorded}
 use Rattle.txn_runner.specs.Built.{is_built}
+use Rattle.txn_runner.specs.Calm.{IsCalm}
 use Rattle.txn_runner.specs.Numbers.{Uses}
 use Rattle.txn_runner.specs.Running.{RunGoesOn}
 use Rattle.txn_runner.specs.Settling.{IsSettled, IsSubmitted, HasDocuments}

@@ -9,7 +9,7 @@ ghost use Rattle.store_trait.specs.Meaning.{bodies};
 ghost use Rattle.store_laws.specs.Plain.{IsPlain};
 ghost use Rattle.txn_cli.specs.Listing.{StandsPast, IsNext, next_as};
 ghost use Rattle.txn_runner.specs.Causes.{IsOfStore};
-ghost use Rattle.txn_cli.specs.Refusals.{HasReason, IsOfRun};
+ghost use Rattle.txn_cli.specs.Refusals.{HasReason, IsOfRun, IsUnspent};
 ghost use Rattle.txn_runner.specs.Running.{OnlyReads};
 ghost use Rattle.txn_cli.specs.Texts.{document_line, documents_text};
 
@@ -32,6 +32,7 @@ pub fn push_documents<S: Store>(
         (lines.new.items ≡ lines.old.items ++ documents_text (bodies (S.content store.old))) }
     ensures reads { IsTrue S.tells → OnlyReads S.content S.place S.calls store.old store.new }
     ensures reason { (c : Content) → IfErr result (HasReason c) }
+    ensures unspent { IfErr result IsUnspent }
     ensures kind { IfErr result IsOfRun }
     ensures calls { CallsGoOn S.tells S.content S.place S.calls S.faults store.old store.new }
     ensures fault { IsErrOf result Fault.Store → Rose (S.faults store.old) (S.faults store.new) }

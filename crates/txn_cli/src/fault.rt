@@ -4,7 +4,8 @@ ghost use Rattle.std.specs.Prelude.{◌≡◌, ◌⊎◌, ◌↔◌, IsTrue};
 ghost use Rattle.txn_cli.specs.Faulting.{status_of, fault_of_step};
 ghost use Rattle.txn_script.specs.Faults.{fault_text as script_text};
 ghost use Rattle.store_trait.specs.Contents.{Content};
-ghost use Rattle.txn_cli.specs.Refusals.{HasReason, IsOfRun};
+ghost use Rattle.txn_cli.specs.Refusals.{HasReason, IsOfRun, IsUnspent};
+ghost use Rattle.txn_runner.specs.Causes.{IsOfStore};
 ghost use Rattle.txn_runner.specs.Settling.{MayStop};
 
 use doc_value::Text;
@@ -91,6 +92,7 @@ pub fn fault_of(error: StepError) -> Fault
     ensures exact { result ≡ fault_of_step error }
     ensures kind { IsOfRun result }
     ensures reason { (c : Content) → MayStop c error → HasReason c result }
+    ensures unspent { IsOfStore error → IsUnspent result }
     ensures store { result ≡ Fault.Store → error ≡ StepError.StoreFault }
 {
     match error {

@@ -1,4 +1,4 @@
-use Rattle.std.proofs.Common.{refl, ap, tt}
+use Rattle.std.proofs.Common.{refl, ap}
 use Rattle.txn_cli.specs.Play.{Progress}
 use Rattle.txn_cli.proofs.Readings.{begins_stopped}
 use Rattle.txn_cli.proofs.command.run.Goals as goal

@@ -14,7 +14,7 @@ loop-txn-init g c = record {
 }
 
 pub settle-requires : goal.settle-requires
-settle-requires g c = record { built = (and_parts _ _ (rw at_item _ _ _ c.txn-item.is c.loop-txn-test.true at c.loop-txn.invariant.built)).0; worth = λ told. begins_worth _ _ _ (subst (λ (l : List Waiting). IsSettling g.S.Store.content g.S.Store.place g.S.Store.calls c.args.store.now c.loop-txn.store c.args.order.now.items c.loop-txn.order.items c.args.batch.now l c.loop-txn.lines.items) (at_item _ _ _ c.txn-item.is c.loop-txn-test.true) (c.loop-txn.invariant.told told)).begun }
+settle-requires g c = record { built = (and_parts _ _ (rw (at_item _ _ _ c.txn-item.is c.loop-txn-test.true) at c.loop-txn.invariant.built)).0; worth = λ told. begins_worth _ _ _ (subst (λ (l : List Waiting). IsSettling g.S.Store.content g.S.Store.place g.S.Store.calls c.args.store.now c.loop-txn.store c.args.order.now.items c.loop-txn.order.items c.args.batch.now l c.loop-txn.lines.items) (at_item _ _ _ c.txn-item.is c.loop-txn-test.true) (c.loop-txn.invariant.told told)).begun }
 
 pub returns-in_err-push_outcome-in-Ok-clause-works : goal.returns-in_err-push_outcome-in-Ok-clause-works
 returns-in_err-push_outcome-in-Ok-clause-works g c = λ told.
@@ -32,7 +32,7 @@ loop-txn-preserved g c = record {
       let h = subst (λ (l : List Waiting). IsSettling g.S.Store.content g.S.Store.place g.S.Store.calls c.args.store.now c.loop-txn.store c.args.order.now.items c.loop-txn.order.items c.args.batch.now l c.loop-txn.lines.items) (at_item _ _ _ c.txn-item.is c.loop-txn-test.true) (c.loop-txn.invariant.told told) in
       settling_next _ _ _ _ _ _ _ _ _ _ _ _ _ _ c.in-Ok.outcome h (c.settle.ensures.works told) (c.settle.ensures.uses told) (c.in-Ok.ensures.settled told) c.in_ok-push_outcome-in-Ok.ensures;
   made = calls_then _ _ _ _ _ _ _ _ c.loop-txn.invariant.made c.settle.ensures.calls;
-  built = (and_parts _ _ (rw at_item _ _ _ c.txn-item.is c.loop-txn-test.true at c.loop-txn.invariant.built)).1;
+  built = (and_parts _ _ (rw (at_item _ _ _ c.txn-item.is c.loop-txn-test.true) at c.loop-txn.invariant.built)).1;
 }
 
 pub returns-clause-done : goal.returns-clause-done

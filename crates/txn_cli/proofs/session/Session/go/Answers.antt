@@ -4,7 +4,7 @@ use Rattle.txn_cli.proofs.session.Session.go.Goals as goal
 pub returns-clause-done : goal.returns-clause-done
 returns-clause-done g c = λ told was printed. record {
   lines = c.in_ok-lines.lines.items;
-  ran = rw c.as_slice.ensures at (c.in_ok-lines.ensures.done told);
+  ran = rw c.as_slice.ensures.list at (c.in_ok-lines.ensures.done told);
   printed = refl;
   none_waits = c.clear.ensures;
   begun = refl;

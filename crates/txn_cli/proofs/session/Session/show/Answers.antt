@@ -30,3 +30,8 @@ pub returns-clause-runs : goal.returns-clause-runs
 returns-clause-runs g c = λ told was.
     let h = c.in_ok-lines.ensures.held told was in
     runs_only_read _ _ _ _ _ _ _ _ (c.push_documents.ensures.reads told) c.push_documents.ensures.calls told h.may_run.calm.sound h.runs
+
+pub returns-in_err-push_documents-clause-enough : goal.returns-in_err-push_documents-clause-enough
+returns-in_err-push_documents-clause-enough g c = λ told was suffices.
+    let p = err_from_is_err_and c.from_residual-in_err-push_documents.result c.from_residual-in_err-push_documents.ensures.1 in
+    rw (p.1, p.2) c.in_err-push_documents.ensures.unspent

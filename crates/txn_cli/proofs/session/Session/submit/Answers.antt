@@ -38,3 +38,9 @@ pub returns-clause-runs : goal.returns-clause-runs
 returns-clause-runs g c = λ told was.
     let h = c.requires.held told was in
     runs_only_read _ _ _ _ _ _ _ _ (c.may_wait.ensures.reads told) c.may_wait.ensures.calls told h.may_run.calm.sound h.runs
+
+pub returns-then-is_some-clause-reason : goal.returns-then-is_some-clause-reason
+returns-then-is_some-clause-reason g c = λ told was. c.unbuilt-then-is_some.ensures.reason _
+
+pub returns-then-not-is_built-clause-reason : goal.returns-then-not-is_built-clause-reason
+returns-then-not-is_built-clause-reason g c = λ told was. c.unbuilt-then-not-is_built.ensures.reason _
