@@ -22,6 +22,18 @@ const OUTPUT: &str = r#"000000000000000000000001 applied
 "k" "a" {"v":1}
 "#;
 
+/// Its assertion fails, so that nothing changes.
+const ABORT: &str = r#"{"doc":["k","a"],"body":{"v":0}}
+{"txn":"000000000000000000000001","ops":[{"a":{"v":1},"c":"k","d":"a","u":{"$set":{"v":2}}}]}
+{"txn":"000000000000000000000002","ops":[{"a":"d+","c":"k","d":"a"}]}
+{"show":true}
+"#;
+
+const ABORTED: &str = r#"000000000000000000000001 aborted
+000000000000000000000002 applied
+"k" "a" {"v":0}
+"#;
+
 /// What a call wrote, and how it ended.
 #[derive(Drop)]
 struct Played {
@@ -72,10 +84,11 @@ fn worked_scripts(rt: HostRuntime) -> Result<(), Fail> {
     let alloc = rt.alloc();
     for (word, script, status, text) in [
         ("run", SCRIPT, 0, OUTPUT),
+        ("run", ABORT, 1, ABORTED),
         ("run", "", 0, ""),
         ("fly", SCRIPT, 2, USAGE),
         ("run", "{\"audit\":true}\n", 3, "line 1: not built yet\n"),
-        ("run", "# a comment\n\n{\"sho", 3, "line 3: not built yet\n"),
+        ("run", "# a comment\n\n{\"sho", 3, "line 3: not JSON\n"),
     ] {
         let played = play(alloc, word, script, NONE)?;
         assert_eq!(rt; played.status, status, "{script}");

@@ -12,11 +12,7 @@ pub enum Stage {
     /// Its document is to be read.
     Look { nonce: u32 },
     /// It is to be decided by what its document was read as.
-    Decide {
-        nonce: u32,
-        revno: i64,
-        holds: bool,
-    },
+    Decide { nonce: u32, revno: i64, holds: bool },
     /// Its update is to be made.
     Update { nonce: u32, revno: i64 },
     /// Its record is to be moved to applied.
