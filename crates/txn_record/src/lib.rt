@@ -22,7 +22,8 @@ pub use fault::{OpFault, OpsFault};
 pub use id::{Token, TxnId, ids_are_ordered, tokens_read_back};
 pub use key::{Key, keys_are_ordered};
 pub use laws::{
-    chains_follow, changes_are_local, documents_rise, numbers_stand, operations_alone, orders_grow,
+    chains_follow, changes_are_local, documents_rise, numbers_stand, operations_alone,
+    operations_read_back, orders_grow,
 };
 pub use op::{Assert, Change, Op};
 pub use ops::Ops;
