@@ -1,4 +1,8 @@
 //! Transactions as they are kept: ids, tokens, keys, operations, records, documents and entries.
+//!
+//! A value is read as exactly the operations that it is, or refused by the first fault of the first faulty
+//! operation (`Ops::read`), and what they print as is read as them again. `chain` gives the revision number
+//! that each operation finds, and where each key ends.
 #![tactic(auto)]
 
 mod docs;
