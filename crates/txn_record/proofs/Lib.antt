@@ -1,6 +1,7 @@
 pub mod SoundReading
 pub mod ReadingLaws
 pub mod KeyOrder
+pub mod ReadBack
 pub mod ChainLaws
 pub mod NumberSizes
 pub mod ChainSteps

@@ -2,6 +2,7 @@
 ghost use Rattle.std.specs.Prelude.{◌≡◌, ◌<◌, ◌≤◌, true, map, length, IfOk, IfErr, OnOk};
 ghost use Rattle.std.specs.FinMap.{insert};
 ghost use Rattle.std.specs.List.{list_any};
+ghost use Rattle.std.specs.List.Sorted.{IsPermutation};
 ghost use Rattle.txn_record.specs.Chain.{keys_of, set_of};
 ghost use Rattle.txn_record.specs.Places.{GoesAt, StandsAt, keys_rise};
 ghost use Rattle.txn_record.specs.Revnos.{same_key};
@@ -12,16 +13,29 @@ use doc_value::OutOfMemory;
 use sqlite_items::Items;
 use std::alloc::Global;
 
-/// The distinct keys of the operations, in key order.
+/// The distinct keys of the operations, in key order. Sorted first, each new key goes to the end, so that no
+/// key moves.
 pub(crate) fn distinct_keys(alloc: Global, ops: &[Op]) -> Result<Items<Key>, OutOfMemory>
     ensures all { IfOk result (λ keys. keys ≡ keys_of ops.now) }
     ensures rise { IfOk result (λ keys. keys_rise keys ≡ true) }
 {
     let mut keys = Vec::new(alloc);
-    for op in ops {
+    for op in &sorted_by_key(alloc, ops)? {
         add_key(alloc, &mut keys, &op.key)?;
     }
     Ok(Items::from_vec(keys))
+}
+
+/// The operations in the order of their keys.
+fn sorted_by_key<'a>(alloc: Global, ops: &'a [Op]) -> Result<Vec<&'a Op>, OutOfMemory>
+    ensures { IfOk result (λ sorted. IsPermutation ops.now (map (λ op. op.now) sorted.items)) }
+{
+    let mut sorted = Vec::new(alloc);
+    for op in ops {
+        sorted.push(op)?;
+    }
+    sorted.sort_by(|op, other| op.key.compare(&other.key))?;
+    Ok(sorted)
 }
 
 /// Adds a key to keys that rise, unless it is there.

@@ -1,6 +1,6 @@
 //! Laws of the sequential side: of operations on documents, and of recorded orders. The crates above
 //! cite them by these contracts.
-ghost use Rattle.std.specs.Prelude.{◌≡◌, ◌≢◌, ◌≤◌, ◌&&◌, [], ◌∷◌, ◌++◌, List, length, map, true, false, Some, ℤ};
+ghost use Rattle.std.specs.Prelude.{◌≡◌, ◌≢◌, ◌≤◌, ◌&&◌, [], ◌∷◌, ◌++◌, List, length, map, true, false, Some, Ok, ℤ};
 ghost use Rattle.std.specs.declared.cmp.Ordering.TheVariants.{Less};
 ghost use Rattle.std.specs.FinMap.{empty, get, insert};
 ghost use Rattle.txn_record.specs.declared.entry.Entry.{Entry};
@@ -10,6 +10,9 @@ ghost use Rattle.txn_record.specs.Documents.{Docs, IsPast, effect, effect_of, bo
 ghost use Rattle.std.specs.List.{list_all};
 ghost use Rattle.txn_record.specs.Chain.{Numbers, keys_of, has_key, numbers_of, number_at, found_by, has_room};
 ghost use Rattle.txn_record.specs.Keys.{key_cmp};
+ghost use Rattle.txn_record.specs.Printing.{ops_value};
+ghost use Rattle.txn_record.specs.Reading.{ops_in};
+ghost use Rattle.txn_record.specs.Transactions.{IsTransaction};
 ghost use Rattle.txn_record.specs.Revnos.{first_on, follows, stays_within};
 ghost use Rattle.doc_value.specs.declared.value.Value.{Value};
 
@@ -57,4 +60,9 @@ pub fn chains_follow()
 pub fn numbers_stand()
     ensures { (key : Key) (ops : List Op) (number : Key → ℤ) → has_key key ops ≡ true →
         number_at key (numbers_of ops (map number (keys_of ops))) ≡ number key }
+{}
+
+/// What the operations of a transaction print as is read as these operations.
+pub fn operations_read_back()
+    ensures { (ops : List Op) → IsTransaction ops → ops_in (ops_value ops) ≡ Ok ops }
 {}

@@ -1,5 +1,5 @@
 //! Reading of one operation.
-ghost use Rattle.std.specs.Prelude.{◌≡◌, ◌≢◌, Err, IfOk};
+ghost use Rattle.std.specs.Prelude.{◌≡◌, IfOk};
 ghost use Rattle.std.specs.Option.{option_copied};
 ghost use Rattle.doc_query.specs.Reading.{query_in};
 ghost use Rattle.doc_update.specs.Reading.{update_in};

@@ -1,9 +1,10 @@
-use Rattle.std.proofs.Common.{List, sym, ap, ◌∙◌}
+use Rattle.std.proofs.Common.{sym, ap, map, subst, ◌∙◌}
 use Rattle.std.proofs.lemmas.List.{at_drop_all}
 use Rattle.std.specs.FinMap.{keys}
 use Rattle.txn_record.specs.Chain.{KeySet, with_keys, set_of}
 use Rattle.txn_record.specs.Places.{keys_rise}
-use Rattle.txn_record.specs.declared.op.Op.{Op}
+use Rattle.std.specs.List.Sorted.{IsPermutation}
+use Rattle.txn_record.proofs.ChainSteps.{same_keys}
 use Rattle.txn_record.proofs.KeySets.{set_of_none, keys_of_set}
 use Rattle.txn_record.proofs.keys.distinct_keys.Goals as goal
 
@@ -11,12 +12,15 @@ pub loop-op-init : goal.loop-op-init
 loop-op-init c =
     let none = c.new-keys.ensures.items in
     record {
-      so_far = ap (with_keys c.args.ops.now) (ap set_of none ∙ set_of_none);
+      so_far = ap (with_keys (map (λ op. op.now) c.deref-op-items.result.now)) (ap set_of none ∙ set_of_none);
       rise = ap keys_rise none;
     }
 
 pub returns-clause-all : goal.returns-clause-all
 returns-clause-all c =
     let loop = c.loop-op in
-    let ended = at_drop_all (λ (ops : List Op). with_keys ops (set_of loop.keys.items)) c.args.ops.now loop.op-index c.loop-op-test.false in
-    c.from_vec.ensures ∙ sym (keys_of_set loop.keys.items loop.invariant.rise) ∙ ap (λ (set : KeySet). keys set) (sym ended ∙ loop.invariant.so_far)
+    let sorted = c.deref-op-items.result.now in
+    let ended = at_drop_all (λ ops. with_keys (map (λ op. op.now) ops) (set_of loop.keys.items)) sorted loop.op-index c.loop-op-test.false in
+    let moved = subst (λ ops. IsPermutation c.args.ops.now (map (λ op. op.now) ops)) (sym c.deref-op-items.ensures.value) c.in_ok-sorted_by_key.ensures in
+    c.from_vec.ensures ∙ sym (keys_of_set loop.keys.items loop.invariant.rise)
+    ∙ ap (λ (set : KeySet). keys set) (sym ended ∙ loop.invariant.so_far ∙ same_keys c.args.ops.now (map (λ op. op.now) sorted) moved)
