@@ -1,6 +1,11 @@
 pub mod SoundReading
 pub mod ReadingLaws
 pub mod KeyOrder
+pub mod ChainLaws
+pub mod NumberSizes
+pub mod ChainSteps
+pub mod KeyPlaces
+pub mod KeySets
 pub mod TokenTexts
 pub mod SortedEntries
 pub mod DocLists

@@ -5,5 +5,8 @@ pub mod Ids
 pub mod Documents
 pub mod Operations
 pub mod Reading
+pub mod Printing
 pub mod Revnos
+pub mod Chain
+pub mod Places
 pub mod Walks

@@ -1,13 +1,16 @@
 //! Laws of the sequential side: of operations on documents, and of recorded orders. The crates above
 //! cite them by these contracts.
-ghost use Rattle.std.specs.Prelude.{◌≡◌, ◌≢◌, ◌&&◌, [], ◌∷◌, ◌++◌, List, true, false};
+ghost use Rattle.std.specs.Prelude.{◌≡◌, ◌≢◌, ◌≤◌, ◌&&◌, [], ◌∷◌, ◌++◌, List, length, map, true, false, Some, ℤ};
 ghost use Rattle.std.specs.declared.cmp.Ordering.TheVariants.{Less};
 ghost use Rattle.std.specs.FinMap.{empty, get, insert};
 ghost use Rattle.txn_record.specs.declared.entry.Entry.{Entry};
 ghost use Rattle.txn_record.specs.declared.key.Key.{Key};
 ghost use Rattle.txn_record.specs.declared.op.Op.{Op};
 ghost use Rattle.txn_record.specs.Documents.{Docs, IsPast, effect, effect_of, body_after, assertion_holds, change_fits, tests, outcome_effect, after, is_right, has_entry, legal};
+ghost use Rattle.std.specs.List.{list_all};
+ghost use Rattle.txn_record.specs.Chain.{Numbers, keys_of, has_key, numbers_of, number_at, found_by, has_room};
 ghost use Rattle.txn_record.specs.Keys.{key_cmp};
+ghost use Rattle.txn_record.specs.Revnos.{first_on, follows, stays_within};
 ghost use Rattle.doc_value.specs.declared.value.Value.{Value};
 
 /// An operation changes nothing but the body at its key.
@@ -38,4 +41,20 @@ pub fn orders_grow()
         legal base entries ≡ true → has_entry entries entry ≡ false →
         is_right entry.outcome (tests entry.ops (after base entries)) ≡ true →
         legal base (entries ++ entry ∷ []) ≡ true }
+{}
+
+/// Of a chain, each operation finds what the one before it on the same key left, and the first on a key
+/// what stands there; where the numbers have room, no number of it passes the limit.
+pub fn chains_follow()
+    ensures follows { (ops : List Op) (numbers : Numbers) → follows ops (found_by ops numbers) ≡ true }
+    ensures begins { (key : Key) (ops : List Op) (numbers : Numbers) → has_key key ops ≡ true →
+        first_on key ops (found_by ops numbers) ≡ Some (number_at key numbers) }
+    ensures within { (ops : List Op) (first : List ℤ) → length ops ≤ 1000 → list_all has_room first ≡ true →
+        stays_within ops (found_by ops (numbers_of ops first)) ≡ true }
+{}
+
+/// Numbers that are given for the distinct keys in key order stand at these keys.
+pub fn numbers_stand()
+    ensures { (key : Key) (ops : List Op) (number : Key → ℤ) → has_key key ops ≡ true →
+        number_at key (numbers_of ops (map number (keys_of ops))) ≡ number key }
 {}

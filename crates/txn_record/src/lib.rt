@@ -6,11 +6,14 @@ mod entry;
 mod fault;
 mod id;
 mod key;
+mod keys;
 mod laws;
 mod op;
 mod ops;
+mod print;
 mod read;
 mod record;
+mod revnos;
 mod state;
 
 pub use docs::{Doc, Docs};
@@ -18,8 +21,11 @@ pub use entry::{Entry, Outcome};
 pub use fault::{OpFault, OpsFault};
 pub use id::{Token, TxnId, ids_are_ordered, tokens_read_back};
 pub use key::{Key, keys_are_ordered};
-pub use laws::{changes_are_local, documents_rise, operations_alone, orders_grow};
+pub use laws::{
+    chains_follow, changes_are_local, documents_rise, numbers_stand, operations_alone, orders_grow,
+};
 pub use op::{Assert, Change, Op};
 pub use ops::Ops;
 pub use record::Record;
+pub use revnos::{Chained, chain};
 pub use state::State;

@@ -1,9 +1,13 @@
-ghost use Rattle.std.specs.Prelude.{◌≡◌, ◌≢◌, ◌≤◌, length, IfOk, Err};
+ghost use Rattle.std.specs.Prelude.{◌≡◌, ◌≢◌, ◌≤◌, length, map, IfOk, Err};
 ghost use Rattle.std.specs.List.{All};
+ghost use Rattle.txn_record.specs.Chain.{keys_of};
+ghost use Rattle.txn_record.specs.Printing.{op_value, ops_value};
 ghost use Rattle.txn_record.specs.Reading.{ops_in, ops_from, op_in, numbered};
 ghost use Rattle.txn_record.specs.Transactions.{IsTransaction, IsSoundOp};
 
 use crate::fault::{OpsFault, Refusal};
+use crate::key::Key;
+use crate::keys::distinct_keys;
 use crate::op::Op;
 use crate::read::read_op;
 use doc_value::{OutOfMemory, Value};
@@ -64,6 +68,20 @@ impl Ops {
         self.list.as_slice()
     }
 
+    /// The distinct keys, in key order.
+    pub fn keys(&self, alloc: Global) -> Result<Items<Key>, OutOfMemory>
+        ensures { IfOk result (λ keys. keys ≡ keys_of self.now) }
+    {
+        distinct_keys(alloc, self.list.as_slice())
+    }
+
+    /// The value that they print as: a list of objects.
+    pub fn to_value(&self, alloc: Global) -> Result<Value, OutOfMemory>
+        ensures { IfOk result (λ value. value ≡ ops_value self.now) }
+    {
+        Ok(Value::List(values_of(alloc, self.list.as_slice())?))
+    }
+
     /// Equal operations.
     pub fn copy(&self, alloc: Global) -> Result<Ops, OutOfMemory>
         ensures { IfOk result (λ copy. copy ≡ self.now) }
@@ -75,6 +93,16 @@ impl Ops {
         }
         Ok(Ops { list })
     }
+}
+
+fn values_of(alloc: Global, ops: &[Op]) -> Result<Items<Value>, OutOfMemory>
+    ensures { IfOk result (λ values. values ≡ map op_value ops.now) }
+{
+    let mut values = Items::new(alloc);
+    for op in ops {
+        values.push(op.to_value(alloc)?)?;
+    }
+    Ok(values)
 }
 
 /// The values as operations, counted from 0.
