@@ -27,5 +27,8 @@ pub use laws::{
 pub use op::{Assert, Change, Op};
 pub use ops::Ops;
 pub use record::Record;
-pub use revnos::{Chained, chain};
+pub use revnos::{Chained, chain, has_room};
 pub use state::State;
+
+#[cfg(test)]
+mod tests;

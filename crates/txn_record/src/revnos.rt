@@ -14,6 +14,17 @@ use doc_value::OutOfMemory;
 use sqlite_items::Items;
 use std::alloc::Global;
 
+/// The greatest absolute value of a number that a chain may begin at: its operations, at most 1,000, then
+/// lead to no number past 2^62.
+const MAX_FIRST: u64 = 4_611_686_018_427_386_903;
+
+/// Whether a chain may begin at this number.
+pub fn has_room(number: i64) -> bool
+    ensures { result ≡ has_room number }
+{
+    number.unsigned_abs() <= MAX_FIRST
+}
+
 /// The revision numbers of a transaction's operations.
 #[derive(Drop)]
 pub struct Chained {

@@ -1,0 +1,682 @@
+ghost use Rattle.std.specs.Prelude.{◌≡◌};
+ghost use Rattle.std.specs.List.{list_all};
+ghost use Rattle.txn_record.specs.Chain.{has_room};
+
+use super::*;
+use doc_value::{OutOfMemory, Text, Value, print_value, read_value};
+use sqlite_items::Items;
+use std::alloc::{AllocError, Global};
+use std::cmp::Ordering;
+use std::test::Fail;
+
+const ID: &str = "00000000000000000000000a";
+
+fn value(alloc: Global, json: &str) -> Result<Value, Fail> {
+    Ok(read_value(alloc, json.as_bytes())?)
+}
+
+fn id(text: &str) -> Result<TxnId, Fail> {
+    Ok(TxnId::read(text.as_bytes()).ok_or("no id")?)
+}
+
+fn key(alloc: Global, c: &str, d: &str) -> Result<Key, Fail> {
+    let c = Value::Text(Text::from_str(alloc, c)?);
+    let d = value(alloc, d)?;
+    Ok(Key::read(alloc, &c, &d)?.ok_or("no key")?)
+}
+
+fn read_ops(alloc: Global, json: &str) -> Result<Ops, Fail> {
+    let value = value(alloc, json)?;
+    Ok(Ops::read(alloc, &value).ok().ok_or("no operations")?)
+}
+
+/// One operation, an update.
+fn ops(alloc: Global) -> Result<Ops, Fail> {
+    read_ops(alloc, "[{\"c\":\"k\",\"d\":7,\"u\":{\"$set\":{\"v\":1}}}]")
+}
+
+/// The token's text again, in lower case; empty where there is none.
+fn token_again(alloc: Global, text: &str) -> Result<Vec<u8>, Fail> {
+    match Token::read(text.as_bytes()) {
+        Some(token) => Ok(token.print(alloc)?),
+        None => Ok(Vec::new(alloc)),
+    }
+}
+
+#[test]
+fn tokens(rt: HostRuntime) -> Result<(), Fail> {
+    let rows = [
+        [
+            "00000000000000000000000A_0000002F",
+            "00000000000000000000000a_0000002f",
+        ],
+        [
+            "00000000000000000000000a_ffffffff",
+            "00000000000000000000000a_ffffffff",
+        ],
+        ["00000000000000000000000a-00000000", ""],
+        ["00000000000000000000000a_0000000", ""],
+        ["0000000000000000000000a_000000000", ""],
+        ["00000000000000000000000g_00000000", ""],
+        ["00000000000000000000000a_0000000g", ""],
+        ["00000000000000000000000a", ""],
+    ];
+    for [text, again] in rows {
+        assert_eq!(rt;
+            token_again(rt.alloc(), text)?.as_slice(),
+            again.as_bytes(),
+            "{text}"
+        );
+    }
+    Ok(())
+}
+
+#[test]
+fn ids(rt: HostRuntime) -> Result<(), Fail> {
+    let token = Token::read(b"00000000000000000000000a_00010203").ok_or("no token")?;
+    assert_eq!(rt; token.nonce, 66051);
+    assert_eq!(rt; token.id.print(rt.alloc())?.as_slice(), ID.as_bytes());
+    assert!(rt; token.id.compare(&id("010000000000000000000000")?) == Ordering::Less);
+    assert!(rt; TxnId::read(b"00000000000000000000000").is_none());
+    Ok(())
+}
+
+fn stands_before(
+    alloc: Global,
+    c: &str,
+    d: &str,
+    other_c: &str,
+    other_d: &str,
+) -> Result<bool, Fail> {
+    let lesser = key(alloc, c, d)?;
+    let greater = key(alloc, other_c, other_d)?;
+    let copy = lesser.copy(alloc)?;
+    Ok(
+        lesser.compare(&greater) == Ordering::Less
+            && lesser.equals(&copy)
+            && !lesser.equals(&greater),
+    )
+}
+
+#[test]
+fn keys_in_order(rt: HostRuntime) -> Result<(), Fail> {
+    let rows = [
+        ["a", "\"z\"", "b", "\"a\""],
+        ["a", "9", "aa", "\"\""],
+        ["k", "\"z\"", "k", "-5"],
+        ["k", "\"B\"", "k", "\"a\""],
+        ["k", "\"a\"", "k", "\"aa\""],
+        ["k", "9", "k", "10"],
+    ];
+    for [c, d, other_c, other_d] in rows {
+        assert!(rt;
+            stands_before(rt.alloc(), c, d, other_c, other_d)?,
+            "{c} {d} {other_c} {other_d}"
+        );
+    }
+    Ok(())
+}
+
+/// Values, and what they print as where they are operations, or else their fault, with the number of the
+/// operation that has it.
+static READINGS: [(&str, &str); 93] = [
+    ("5", "NotList"),
+    ("null", "NotList"),
+    ("{}", "NotList"),
+    (r#"{"a":"d+","c":"k","d":1}"#, "NotList"),
+    (r#""[]""#, "NotList"),
+    ("[]", "Empty"),
+    (
+        r#"[{"a":"d+","c":"k","d":1}]"#,
+        r#"[{"a":"d+","c":"k","d":1}]"#,
+    ),
+    (
+        r#"[{"a":"d-","c":"k","d":"x"}]"#,
+        r#"[{"a":"d-","c":"k","d":"x"}]"#,
+    ),
+    (
+        r#"[{"a":{"v":{"$gt":3}},"c":"k","d":-7}]"#,
+        r#"[{"a":{"v":{"$gt":3}},"c":"k","d":-7}]"#,
+    ),
+    (
+        r#"[{"a":{},"c":"k","d":""}]"#,
+        r#"[{"a":{},"c":"k","d":""}]"#,
+    ),
+    (
+        r#"[{"c":"k","d":1,"i":{"v":[1,{"w":null}]}}]"#,
+        r#"[{"c":"k","d":1,"i":{"v":[1,{"w":null}]}}]"#,
+    ),
+    (
+        r#"[{"a":"d-","c":"k","d":1,"i":{}}]"#,
+        r#"[{"a":"d-","c":"k","d":1,"i":{}}]"#,
+    ),
+    (
+        r#"[{"c":"k","d":1,"r":true}]"#,
+        r#"[{"c":"k","d":1,"r":true}]"#,
+    ),
+    (
+        r#"[{"a":"d+","c":"k","d":1,"r":true}]"#,
+        r#"[{"a":"d+","c":"k","d":1,"r":true}]"#,
+    ),
+    (
+        r#"[{"a":{"v":0},"c":"k","d":1,"u":{"$set":{"v":1}}}]"#,
+        r#"[{"a":{"v":0},"c":"k","d":1,"u":{"$set":{"v":1}}}]"#,
+    ),
+    (
+        r#"[{"a":"d-","c":"k","d":1,"r":true}]"#,
+        r#"[{"a":"d-","c":"k","d":1,"r":true}]"#,
+    ),
+    (
+        r#"[{"a":"d-","c":"k","d":1,"u":{"$set":{"v":1}}}]"#,
+        r#"[{"a":"d-","c":"k","d":1,"u":{"$set":{"v":1}}}]"#,
+    ),
+    (
+        r#"[{"u":{"$set":{"v":1}},"r":false,"d":9223372036854775807,"c":"k"}]"#,
+        r#"[{"c":"k","d":9223372036854775807,"u":{"$set":{"v":1}}}]"#,
+    ),
+    (
+        r#"[{"c":"k","d":1,"i":{"_id":1,"v":2}}]"#,
+        r#"[{"c":"k","d":1,"i":{"v":2}}]"#,
+    ),
+    (
+        r#"[{"c":"k","d":"1","i":{"v":2,"_id":"1"},"r":false}]"#,
+        r#"[{"c":"k","d":"1","i":{"v":2}}]"#,
+    ),
+    (
+        r#"[{"c":"k","d":1,"r":false,"a":"d+"}]"#,
+        r#"[{"a":"d+","c":"k","d":1}]"#,
+    ),
+    (
+        r#"[{"c":"_i","d":1,"r":true},{"c":"_id2","d":1,"r":true},{"c":"k.$x","d":"_id","r":true}]"#,
+        r#"[{"c":"_i","d":1,"r":true},{"c":"_id2","d":1,"r":true},{"c":"k.$x","d":"_id","r":true}]"#,
+    ),
+    (
+        r#"[{"c":"k","d":1,"i":{"a":{"_id":5,"txn-x":6}}},{"c":"k","d":1,"u":{"$inc":{"a._id":1}}},{"c":"k","d":1,"r":true}]"#,
+        r#"[{"c":"k","d":1,"i":{"a":{"_id":5,"txn-x":6}}},{"c":"k","d":1,"u":{"$inc":{"a._id":1}}},{"c":"k","d":1,"r":true}]"#,
+    ),
+    ("[5]", "0 BadOperation"),
+    ("[null]", "0 BadOperation"),
+    ("[[]]", "0 BadOperation"),
+    (r#"[{"a":"d+","c":"k","d":1,"x":1}]"#, "0 BadOperation"),
+    (r#"[{"A":"d+","c":"k","d":1}]"#, "0 BadOperation"),
+    (r#"[{"a":"d+","aa":1,"c":"k","d":1}]"#, "0 BadOperation"),
+    (r#"[{"a":"d+","c":5,"d":1}]"#, "0 BadOperation"),
+    (r#"[{"a":"d+","c":null,"d":1}]"#, "0 BadOperation"),
+    (r#"[{"c":"k","d":1,"r":1}]"#, "0 BadOperation"),
+    (r#"[{"c":"k","d":1,"r":null}]"#, "0 BadOperation"),
+    ("[{}]", "0 KeyMissing"),
+    (r#"[{"a":"d+","d":1}]"#, "0 KeyMissing"),
+    (r#"[{"a":"d+","c":"","d":1}]"#, "0 KeyMissing"),
+    (r#"[{"a":"d+","c":"k"}]"#, "0 KeyMissing"),
+    (r#"[{"a":"d+","c":"k","d":null}]"#, "0 KeyMissing"),
+    (r#"[{"a":"d+","c":"_id","d":1}]"#, "0 BadKey"),
+    (r#"[{"a":"d+","c":"k\u0000","d":1}]"#, "0 BadKey"),
+    (r#"[{"a":"d+","c":"k","d":true}]"#, "0 BadKey"),
+    (r#"[{"a":"d+","c":"k","d":[1]}]"#, "0 BadKey"),
+    (r#"[{"a":"d+","c":"k","d":{}}]"#, "0 BadKey"),
+    (r#"[{"a":"d+","c":"k","d":"\u0000"}]"#, "0 BadKey"),
+    (
+        r#"[{"c":"k","d":1,"i":{},"u":{"$set":{"v":1}}}]"#,
+        "0 SeveralChanges",
+    ),
+    (r#"[{"c":"k","d":1,"i":{},"r":true}]"#, "0 SeveralChanges"),
+    (
+        r#"[{"c":"k","d":1,"r":true,"u":{"$set":{"v":1}}}]"#,
+        "0 SeveralChanges",
+    ),
+    (r#"[{"c":"k","d":1}]"#, "0 NothingSet"),
+    (r#"[{"c":"k","d":1,"r":false}]"#, "0 NothingSet"),
+    (r#"[{"a":"d+","c":"k","d":1,"i":{}}]"#, "0 InsertAssert"),
+    (r#"[{"a":{},"c":"k","d":1,"i":{}}]"#, "0 InsertAssert"),
+    (r#"[{"a":null,"c":"k","d":1,"i":{}}]"#, "0 InsertAssert"),
+    (r#"[{"c":"k","d":1,"i":5}]"#, "0 BadInsert"),
+    (r#"[{"c":"k","d":1,"i":null}]"#, "0 BadInsert"),
+    (r#"[{"c":"k","d":1,"i":{"_id":2}}]"#, "0 BadInsert"),
+    (r#"[{"c":"k","d":1,"i":{"_id":"1"}}]"#, "0 BadInsert"),
+    (r#"[{"c":"k","d":1,"i":{"txn-x":1}}]"#, "0 BadInsert"),
+    (r#"[{"c":"k","d":1,"i":{"a":[{"b.c":1}]}}]"#, "0 BadInsert"),
+    (r#"[{"a":"d-","c":"k","d":1,"i":{"$v":1}}]"#, "0 BadInsert"),
+    (r#"[{"c":"k","d":1,"u":null}]"#, "0 BadUpdate"),
+    (r#"[{"c":"k","d":1,"u":{}}]"#, "0 BadUpdate"),
+    (r#"[{"c":"k","d":1,"u":{"v":1}}]"#, "0 BadUpdate"),
+    (r#"[{"c":"k","d":1,"u":{"$set":{"_id":1}}}]"#, "0 BadUpdate"),
+    (r#"[{"a":null,"c":"k","d":1}]"#, "0 BadAssert"),
+    (r#"[{"a":"d","c":"k","d":1}]"#, "0 BadAssert"),
+    (r#"[{"a":"D+","c":"k","d":1}]"#, "0 BadAssert"),
+    (r#"[{"a":["d+"],"c":"k","d":1}]"#, "0 BadAssert"),
+    (r#"[{"a":{"$or":[]},"c":"k","d":1}]"#, "0 BadAssert"),
+    (r#"[{"c":"","d":1,"x":1}]"#, "0 BadOperation"),
+    (r#"[{"c":7}]"#, "0 BadOperation"),
+    (r#"[{"r":"true"}]"#, "0 BadOperation"),
+    (r#"[{"c":"_id","d":1,"r":0}]"#, "0 BadOperation"),
+    (r#"[{"c":"k","d":1,"i":{},"r":1,"u":{}}]"#, "0 BadOperation"),
+    (r#"[{"c":"","d":[]}]"#, "0 KeyMissing"),
+    (r#"[{"a":"d+","c":"_id","d":null}]"#, "0 KeyMissing"),
+    (r#"[{"c":"","d":1,"i":{},"u":{}}]"#, "0 KeyMissing"),
+    (r#"[{"c":"k"}]"#, "0 KeyMissing"),
+    (r#"[{"a":5,"d":1}]"#, "0 KeyMissing"),
+    (r#"[{"c":"_id","d":1,"i":{},"u":{}}]"#, "0 BadKey"),
+    (r#"[{"c":"k","d":false}]"#, "0 BadKey"),
+    (r#"[{"a":"d+","c":"_id","d":1,"i":{}}]"#, "0 BadKey"),
+    (r#"[{"c":"k","d":{},"u":{}}]"#, "0 BadKey"),
+    (
+        r#"[{"a":"d+","c":"k","d":1,"i":{},"u":{}}]"#,
+        "0 SeveralChanges",
+    ),
+    (r#"[{"c":"k","d":1,"r":true,"u":5}]"#, "0 SeveralChanges"),
+    (
+        r#"[{"a":5,"c":"k","d":1,"i":5,"r":true}]"#,
+        "0 SeveralChanges",
+    ),
+    (
+        r#"[{"a":"d+","c":"k","d":1,"i":{"_id":2}}]"#,
+        "0 InsertAssert",
+    ),
+    (r#"[{"a":5,"c":"k","d":1,"i":{}}]"#, "0 InsertAssert"),
+    (r#"[{"a":5,"c":"k","d":1,"u":{}}]"#, "0 BadUpdate"),
+    (
+        r#"[{"a":{"$or":[]},"c":"k","d":1,"u":null}]"#,
+        "0 BadUpdate",
+    ),
+    (
+        r#"[{"c":"k","d":1,"r":true},{"c":"k","d":1,"u":{}},{}]"#,
+        "1 BadUpdate",
+    ),
+    (r#"[{"a":5,"c":"k","d":1},5]"#, "0 BadAssert"),
+    (
+        r#"[{"a":"d+","c":"k","d":1},{"a":"d-","c":"k","d":2},{"c":"k","d":3},{"c":5}]"#,
+        "2 NothingSet",
+    ),
+    (
+        r#"[{"a":"d+","c":"k","d":1},{"a":null,"c":"k","d":1}]"#,
+        "1 BadAssert",
+    ),
+];
+
+/// Texts of a beginning, a part so many times, another so many times, and an end; and `read` or the fault.
+static LIMITS: [(&str, &str, usize, &str, &str, &str); 28] = [
+    (r#"[{"a":"d+","c":""#, "x", 119, "", r#"","d":1}]"#, "read"),
+    (r#"[{"a":"d+","c":""#, "x", 120, "", r#"","d":1}]"#, "read"),
+    (
+        r#"[{"a":"d+","c":""#,
+        "x",
+        121,
+        "",
+        r#"","d":1}]"#,
+        "0 BadKey",
+    ),
+    (
+        r#"[{"a":"d+","c":"k","d":""#,
+        "x",
+        1023,
+        "",
+        r#""}]"#,
+        "read",
+    ),
+    (
+        r#"[{"a":"d+","c":"k","d":""#,
+        "x",
+        1024,
+        "",
+        r#""}]"#,
+        "read",
+    ),
+    (
+        r#"[{"a":"d+","c":"k","d":""#,
+        "x",
+        1025,
+        "",
+        r#""}]"#,
+        "0 BadKey",
+    ),
+    (
+        r#"[{"a":{"v":"#,
+        "[",
+        89,
+        "]",
+        r#"},"c":"k","d":1}]"#,
+        "read",
+    ),
+    (
+        r#"[{"a":{"v":"#,
+        "[",
+        90,
+        "]",
+        r#"},"c":"k","d":1}]"#,
+        "0 TooDeep",
+    ),
+    (r#"[{"c":"k","d":1,"i":{"v":"#, "[", 89, "]", "}}]", "read"),
+    (
+        r#"[{"c":"k","d":1,"i":{"v":"#,
+        "[",
+        90,
+        "]",
+        "}}]",
+        "0 TooDeep",
+    ),
+    (
+        r#"[{"c":"k","d":1,"u":{"$set":{"v":"#,
+        "[",
+        88,
+        "]",
+        "}}}]",
+        "read",
+    ),
+    (
+        r#"[{"c":"k","d":1,"u":{"$set":{"v":"#,
+        "[",
+        89,
+        "]",
+        "}}}]",
+        "0 TooDeep",
+    ),
+    (
+        r#"[{"a":"#,
+        "[",
+        90,
+        "]",
+        r#","c":"k","d":1}]"#,
+        "0 BadAssert",
+    ),
+    (
+        r#"[{"a":"#,
+        "[",
+        91,
+        "]",
+        r#","c":"k","d":1}]"#,
+        "0 TooDeep",
+    ),
+    (r#"[{"c":"k","d":1,"i":"#, "[", 90, "]", "}]", "0 BadInsert"),
+    (r#"[{"c":"k","d":1,"i":"#, "[", 91, "]", "}]", "0 TooDeep"),
+    (r#"[{"c":"k","d":1,"u":"#, "[", 90, "]", "}]", "0 BadUpdate"),
+    (r#"[{"c":"k","d":1,"u":"#, "[", 91, "]", "}]", "0 TooDeep"),
+    (
+        r#"[{"a":{"v":"#,
+        "[",
+        90,
+        "]",
+        r#"},"c":"k","d":1,"u":{}}]"#,
+        "0 TooDeep",
+    ),
+    (
+        r#"[{"a":{"v":"#,
+        "[",
+        90,
+        "]",
+        r#"},"c":"k","d":1,"i":{}}]"#,
+        "0 InsertAssert",
+    ),
+    (
+        r#"[{"c":"k","d":1,"i":{"$v":"#,
+        "[",
+        90,
+        "]",
+        "}}]",
+        "0 TooDeep",
+    ),
+    (
+        r#"[{"c":"k","d":1,"r":true,"u":"#,
+        "[",
+        91,
+        "]",
+        "}]",
+        "0 SeveralChanges",
+    ),
+    (
+        r#"[{"c":"k","d":1,"i":{"_id":"#,
+        "[",
+        90,
+        "]",
+        "}}]",
+        "0 TooDeep",
+    ),
+    (
+        "[",
+        r#"{"c":"k","d":1,"r":true},"#,
+        999,
+        "",
+        r#"{"c":"k","d":1,"r":true}]"#,
+        "read",
+    ),
+    (
+        "[",
+        r#"{"c":"k","d":1,"r":true},"#,
+        1000,
+        "",
+        r#"{"c":"k","d":1,"r":true}]"#,
+        "TooMany",
+    ),
+    (
+        "[5",
+        r#",{"c":"k","d":1,"r":true}"#,
+        1000,
+        "",
+        "]",
+        "TooMany",
+    ),
+    (
+        "[",
+        r#"{"c":"k","d":1,"r":true},"#,
+        999,
+        "",
+        "{}]",
+        "999 KeyMissing",
+    ),
+    (
+        "[5",
+        r#",{"c":"k","d":1,"r":true}"#,
+        999,
+        "",
+        "]",
+        "0 BadOperation",
+    ),
+];
+
+/// Operations, the number that each key begins at, the number that each operation finds, and the number where
+/// each key ends.
+static CHAINS: [(&str, &[i64], &[i64], &[i64]); 8] = [
+    (
+        r#"[{"c":"k","d":1,"i":{}},{"c":"k","d":1,"u":{"$set":{"v":1}}},{"c":"k","d":1,"r":true}]"#,
+        &[-1],
+        &[-1, 2, 3],
+        &[-4],
+    ),
+    (
+        r#"[{"c":"k","d":1,"u":{"$set":{"v":1}}},{"c":"k","d":1,"r":true},{"c":"k","d":1,"i":{}}]"#,
+        &[-3],
+        &[-3, -3, -3],
+        &[4],
+    ),
+    (
+        r#"[{"c":"k","d":1,"i":{}},{"a":"d+","c":"k","d":1},{"c":"k","d":1,"r":true},{"c":"k","d":1,"r":true}]"#,
+        &[0],
+        &[0, 0, 0, -1],
+        &[-1],
+    ),
+    (
+        r#"[{"c":"k","d":2,"u":{"$set":{"v":1}}},{"c":"k","d":1,"u":{"$set":{"v":1}}},{"c":"k","d":2,"r":true},{"c":"k","d":2,"i":{}}]"#,
+        &[0, 5],
+        &[5, 0, 6, -7],
+        &[1, 8],
+    ),
+    (
+        r#"[{"c":"l","d":"a","u":{"$set":{"v":1}}},{"c":"k","d":-5,"r":true},{"c":"k","d":"z","u":{"$set":{"v":1}}},{"a":"d-","c":"k","d":9}]"#,
+        &[7, 40, -2, 1],
+        &[1, 40, 7, -2],
+        &[8, -41, -2, 2],
+    ),
+    (
+        r#"[{"c":"k","d":1,"u":{"$set":{"v":1}}}]"#,
+        &[4611686018427386903],
+        &[4611686018427386903],
+        &[4611686018427386904],
+    ),
+    (
+        r#"[{"c":"k","d":1,"i":{}}]"#,
+        &[-4611686018427386903],
+        &[-4611686018427386903],
+        &[4611686018427386904],
+    ),
+    (
+        r#"[{"c":"k","d":1,"r":true}]"#,
+        &[4611686018427386903],
+        &[4611686018427386903],
+        &[-4611686018427386904],
+    ),
+];
+
+fn fault_name(why: OpFault) -> &'static str {
+    match why {
+        OpFault::BadOperation => "BadOperation",
+        OpFault::KeyMissing => "KeyMissing",
+        OpFault::BadKey => "BadKey",
+        OpFault::SeveralChanges => "SeveralChanges",
+        OpFault::NothingSet => "NothingSet",
+        OpFault::InsertAssert => "InsertAssert",
+        OpFault::TooDeep => "TooDeep",
+        OpFault::BadInsert => "BadInsert",
+        OpFault::BadUpdate => "BadUpdate",
+        OpFault::BadAssert => "BadAssert",
+    }
+}
+
+fn fault_text(alloc: Global, fault: OpsFault) -> Result<String, OutOfMemory> {
+    match fault {
+        OpsFault::NotList => String::from_str(alloc, "NotList"),
+        OpsFault::Empty => String::from_str(alloc, "Empty"),
+        OpsFault::TooMany => String::from_str(alloc, "TooMany"),
+        OpsFault::At { op, why } => format!(in alloc; "{op} {}", fault_name(why)),
+        OpsFault::OutOfMemory => Err(AllocError),
+    }
+}
+
+/// What the operations print as, or their fault.
+fn reading(alloc: Global, text: &[u8]) -> Result<Vec<u8>, OutOfMemory> {
+    let Ok(value) = read_value(alloc, text) else {
+        return Vec::from_slice(alloc, b"no value");
+    };
+    match Ops::read(alloc, &value) {
+        Ok(ops) => print_value(alloc, &ops.copy(alloc)?.to_value(alloc)?),
+        Err(fault) => Ok(fault_text(alloc, fault)?.into_bytes()),
+    }
+}
+
+#[test]
+fn operations_are_read(rt: HostRuntime) -> Result<(), Fail> {
+    for (text, expected) in &READINGS {
+        let shown = reading(rt.alloc(), text.as_bytes())?;
+        assert_eq!(rt; shown.as_slice(), expected.as_bytes(), "{text}");
+    }
+    Ok(())
+}
+
+fn push_times(out: &mut Vec<u8>, times: usize, piece: &str) -> Result<(), OutOfMemory> {
+    for _ in 0..times {
+        out.extend_from_slice(piece.as_bytes())?;
+    }
+    Ok(())
+}
+
+#[test]
+fn operations_have_limits(rt: HostRuntime) -> Result<(), Fail> {
+    for (begin, open, times, close, end, expected) in &LIMITS {
+        let mut text = Vec::from_slice(rt.alloc(), begin.as_bytes())?;
+        push_times(&mut text, *times, open)?;
+        push_times(&mut text, *times, close)?;
+        push_times(&mut text, 1, end)?;
+        let shown = reading(rt.alloc(), text.as_slice())?;
+        let expected = if *expected == "read" {
+            text.as_slice()
+        } else {
+            expected.as_bytes()
+        };
+        assert_eq!(rt; shown.as_slice(), expected, "{begin}{times}{end}");
+    }
+    Ok(())
+}
+
+fn all_have_room(numbers: &[i64]) -> bool
+    ensures { result ≡ list_all has_room numbers.now }
+{
+    for number in numbers {
+        if !has_room(*number) {
+            return false;
+        }
+    }
+    true
+}
+
+fn chained(alloc: Global, json: &str, first: &[i64]) -> Result<Chained, Fail> {
+    let ops = read_ops(alloc, json)?;
+    if first.len() != ops.keys(alloc)?.len() || !all_have_room(first) {
+        return Err("no first numbers".into());
+    }
+    Ok(chain(alloc, &ops, first)?)
+}
+
+#[test]
+fn chains(rt: HostRuntime) -> Result<(), Fail> {
+    for (json, first, found, last) in &CHAINS {
+        let chained = chained(rt.alloc(), json, first)?;
+        assert_eq!(rt; chained.found.as_slice(), *found, "{json}");
+        assert_eq!(rt; chained.last.as_slice(), *last, "{json}");
+    }
+    Ok(())
+}
+
+fn copied_record(alloc: Global, state: State) -> Result<Record, Fail> {
+    let record = Record {
+        id: id(ID)?,
+        state,
+        info: Some(value(alloc, "{\"by\":\"me\"}")?),
+        ops: ops(alloc)?,
+        nonce: Some(3),
+        revnos: Some(Items::from_slice(alloc, &[0])?),
+    };
+    Ok(record.copy(alloc)?)
+}
+
+#[test]
+fn states(rt: HostRuntime) -> Result<(), Fail> {
+    let rows = [
+        (State::Preparing, 1, false, false),
+        (State::Prepared, 2, false, true),
+        (State::Aborting, 3, true, true),
+        (State::Applying, 4, false, true),
+        (State::Aborted, 5, true, true),
+        (State::Applied, 6, true, true),
+    ];
+    for (state, number, settled, decided) in rows {
+        let record = copied_record(rt.alloc(), state)?;
+        assert_eq!(rt; state.number(), number);
+        assert!(rt;
+            record.is_settled() == settled && record.is_decided() == decided,
+            "{number}"
+        );
+    }
+    Ok(())
+}
+
+fn only_document(alloc: Global, doc: Doc) -> Result<Docs, Fail> {
+    let mut docs = Docs::new(alloc);
+    docs.push(doc)?;
+    Ok(docs.copy(alloc)?)
+}
+
+#[test]
+fn entries_and_documents(rt: HostRuntime) -> Result<(), Fail> {
+    let entry = Entry {
+        id: id(ID)?,
+        ops: ops(rt.alloc())?,
+        outcome: Outcome::Applied,
+        revnos: Items::from_slice(rt.alloc(), &[4])?,
+        at: 9,
+    };
+    let entry = entry.copy(rt.alloc())?;
+    let op = entry.ops.as_slice().first().ok_or("no operation")?;
+    let key = op.key.copy(rt.alloc())?;
+    let body = value(rt.alloc(), "{}")?;
+    let docs = only_document(rt.alloc(), Doc { key, body })?;
+    assert_eq!(rt; docs.as_slice().len(), 1);
+    Ok(())
+}
