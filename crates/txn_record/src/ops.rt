@@ -113,7 +113,7 @@ fn read_all(alloc: Global, values: &[Value]) -> Result<Items<Op>, OpsFault>
     ensures count { IfOk result (λ ops. length ops ≡ length values.now) }
 {
     let mut list = Items::new(alloc);
-    let mut op = 0;
+    let mut op: u32 = 0;
     for value in values {
         list.push(read_numbered(alloc, op, value)?)?;
         op += 1;
