@@ -1,4 +1,4 @@
-use Rattle.std.specs.Prelude.{Bool, true, Option, Some, None, List, find}
+use Rattle.std.specs.Prelude.{Bool, true, Option, Some, None, find}
 use Rattle.std.specs.Ordering.{is_lt}
 use Rattle.std.specs.FinMap.{FinMap, entries}
 use Rattle.store_trait.specs.Names.{name_cmp}

@@ -1,4 +1,4 @@
-use Rattle.std.specs.Prelude.{◌≡◌, ℕ, zero, suc, ◌+◌, ℤ, Bool, true, false, ◌&&◌, not, Option, Some, None, unwrap_or, option_and_then, List, [], ◌∷◌, ◌++◌, if◌then◌else◌}
+use Rattle.std.specs.Prelude.{ℕ, zero, suc, ◌+◌, ℤ, ◌&&◌, not, Option, Some, None, unwrap_or, option_and_then, List, [], ◌++◌, if◌then◌else◌}
 use Rattle.std.specs.List.{filter_map}
 use Rattle.std.specs.FinMap.{entries}
 use Rattle.txn_record.specs.States.{is_chosen_state}
@@ -12,7 +12,6 @@ use Rattle.store_trait.specs.Contents.{Content}
 use Rattle.store_trait.specs.View.{look, chosen}
 use Rattle.store_trait.specs.Cells.{as_record}
 use Rattle.store_trait.specs.declared.cell.Cell.{Cell}
-use Rattle.store_trait.specs.declared.name.Name.{Name}
 
 abbrev pub outcome_of : State → Outcome
 outcome_of state.Applying = outcome.Applied

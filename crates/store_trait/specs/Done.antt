@@ -1,5 +1,5 @@
 -- What an applying record has done, and that it stays done.
-use Rattle.std.specs.Prelude.{◌≡◌, ℕ, ◌<◌, ◌≤◌, true, false, ℤ, unsigned_abs, Option, Some, None, List, [], ◌∷◌, ◌⊎◌}
+use Rattle.std.specs.Prelude.{◌≡◌, ℕ, ◌<◌, ◌≤◌, false, ℤ, unsigned_abs, Option, Some, None, List, [], ◌∷◌, ◌⊎◌}
 use Rattle.txn_record.specs.Revnos.{has_effect}
 use Rattle.txn_record.specs.declared.id.TxnId.{TxnId}
 use Rattle.txn_record.specs.declared.key.Key.{Key}

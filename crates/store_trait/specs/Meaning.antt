@@ -1,4 +1,4 @@
-use Rattle.std.specs.Prelude.{ℕ, Bool, true, false, nat_le, ℤ, unsigned_abs, Option, Some, None, unwrap_or, List, [], ◌∷◌, if◌then◌else◌}
+use Rattle.std.specs.Prelude.{nat_le, ℤ, unsigned_abs, Option, Some, None, unwrap_or, List, [], ◌∷◌, if◌then◌else◌}
 use Rattle.std.specs.List.{filter_map, flat_map}
 use Rattle.std.specs.FinMap.{entries, from_entries}
 use Rattle.doc_value.specs.declared.value.Value.{Value}

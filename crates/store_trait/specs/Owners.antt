@@ -1,5 +1,4 @@
-use Rattle.std.specs.Prelude.{ℕ, nat_lt, unsigned_abs, ℤ, Option, Some, None, List, [], if◌then◌else◌}
-use Rattle.txn_record.specs.declared.id.Token.{Token}
+use Rattle.std.specs.Prelude.{ℕ, nat_lt, unsigned_abs, ℤ, Option, Some, None, if◌then◌else◌}
 use Rattle.store_trait.specs.declared.cell.DocCell.{DocCell}
 use Rattle.store_trait.specs.declared.cell.StashCell.{StashCell}
 use Rattle.store_trait.specs.declared.side.Side.{Side}

@@ -1,4 +1,4 @@
-use Rattle.std.specs.Prelude.{◌≡◌, ℕ, ◌<◌, Bool, true, false, ◌&&◌, not, ℤ, pos, int_lt, IsTrue, IfSome, Option, Some, None, is_some, unwrap_or, option_map, option_to_list, List, [], ◌∷◌, ◌++◌}
+use Rattle.std.specs.Prelude.{◌≡◌, ℕ, ◌<◌, Bool, true, false, ◌&&◌, not, IsTrue, IfSome, Some, is_some, unwrap_or, option_map, option_to_list, List, [], ◌++◌}
 use Rattle.std.specs.FinMap.{get}
 use Rattle.txn_record.specs.Documents.{changes_fit}
 use Rattle.txn_record.specs.Revnos.{follows, stays_within, is_within, is_present, is_on_chain}

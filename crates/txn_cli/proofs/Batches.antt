@@ -1,5 +1,5 @@
 -- A batch from its submission to its end.
-use Rattle.std.proofs.Common.{◌≡◌, ◌≢◌, ℕ, ◌+◌, ◌<◌, ◌≤◌, length, drop, Bool, true, false, not, ◌||◌, List, [], ◌∷◌, ◌++◌, Option, Some, None, is_some, Result, Ok, Err, OnOk, OnErr, IfOk, ◌⊎◌, ⊎_elim, inl, inr, refl, sym, ap, ◌∙◌, subst}
+use Rattle.std.proofs.Common.{◌≡◌, ◌≢◌, ℕ, suc, arith, ◌+◌, ◌<◌, ◌≤◌, length, drop, Bool, true, false, not, ◌||◌, List, [], ◌∷◌, ◌++◌, Option, Some, None, is_some, Result, Ok, Err, OnOk, OnErr, IfOk, ◌⊎◌, ⊎_elim, inl, inr, refl, sym, ap, ◌∙◌, subst}
 use Rattle.std.specs.FinMap.{get}
 use Rattle.std.specs.Option.{option_and_then}
 use Rattle.std.proofs.lemmas.Bool.{and_parts}
@@ -37,6 +37,8 @@ use Rattle.store_laws.proofs.PlainEdits.{plain_record}
 use Rattle.store_laws.proofs.RecordEdits.{insert_quiet}
 use Rattle.store_laws.proofs.TrailTells.{trail_records}
 use Rattle.txn_runner.proofs.Beside.{docs_stay}
+use Rattle.txn_runner.proofs.Numbers.{uses_none, uses_then, uses_within}
+use Rattle.txn_runner.specs.Numbers.{Uses}
 use Rattle.txn_cli.proofs.Runs.{run_means, run_legal}
 use Rattle.txn_cli.specs.Batches.{waits, Every, MayBegin, MayRun, HasEnded, StandsIn, record_line, batch_text, KeepsAllBut, WorksOnBatch, IsBegun, IsDoneWith, IsSubmitting, IsSettling}
 use Rattle.txn_runner.specs.Calm.{IsCalm}
@@ -143,6 +145,7 @@ module _ {S : Type 0} (content : S → Content) (place : S → ℕ → Content) 
   pub submitting_begins : (s : S) (waiting : List Waiting) → MayRun (content s) waiting → IsSubmitting content place calls s s waiting waiting
   submitting_begins s waiting may = record {
     works = λ order. batch_none content place calls s waiting order may.calm.sound;
+    uses = uses_none (content s);
     calm = may.calm;
     may_begin = may.may_begin;
     distinct = may.distinct;
@@ -151,13 +154,14 @@ module _ {S : Type 0} (content : S → Content) (place : S → ℕ → Content) 
   }
 
   pub submitting_next : (old now next : S) (waiting : List Waiting) (txn : Waiting) (left : List Waiting) → IsSubmitting content place calls old now waiting (txn ∷ left)
-      → ((order : List Entry) → WorksOn content place calls now next order order txn.id) → IsCalm (content next) → IsSubmitted (content next) txn → IsSubmitting content place calls old next waiting left
-  submitting_next old now next waiting txn left h works calm stands =
+      → ((order : List Entry) → WorksOn content place calls now next order order txn.id) → Uses (content now) (content next) 0 0 0 0 → IsCalm (content next) → IsSubmitted (content next) txn → IsSubmitting content place calls old next waiting left
+  submitting_next old now next waiting txn left h works uses calm stands =
       let distinct = and_parts _ _ h.distinct in
       let others = (works []).others in
       let apart = apart_from txn.id left (not_false (waits left txn.id) distinct.0) in
       record {
         works = λ order. batch_works content place calls old now next order order order waiting txn.id h.within.0 (h.works order) (works order);
+        uses = uses_then h.uses uses;
         calm = calm;
         may_begin = both_every (λ other. other.id ≢ txn.id) (MayBegin (content now)) (MayBegin (content next)) (λ other apart may. record { fresh = others.records other.id apart ∙ may.fresh; docs = docs_stay (content now) (content next) other others.docs may.docs }) left apart h.may_begin.1;
         distinct = distinct.1;
@@ -180,6 +184,9 @@ module _ {S : Type 0} (content : S → Content) (place : S → ℕ → Content) 
   }
 
 -- ---- settling
+
+uses_one_more : {c d e : Content} {m n : ℕ} (k : ℕ) → Uses c d m n (suc k) (suc k) → Uses d e 1 1 0 0 → Uses c e m n k k
+uses_one_more k h one = record { counter = omega (arith, h.counter, one.counter); numbers = λ key. omega (arith, h.numbers key, one.numbers key) }
 
 -- a record that came to its end stays so
 settled_later : (c d : Content) (txn : Waiting) (o : Outcome) → IsStep c d → IsSettled c txn o → IsSettled d txn o
@@ -228,6 +235,7 @@ module _ {S : Type 0} (content : S → Content) (place : S → ℕ → Content) 
   pub settling_begins : (s : S) (order : List Entry) (waiting : List Waiting) → IsBegun (content s) waiting → IsSettling content place calls s s order order waiting waiting []
   settling_begins s order waiting b = record {
     works = batch_none content place calls s waiting order b.calm.sound;
+    uses = uses_within (uses_none (content s)) (omega arith) (omega arith);
     begun = b;
     within = all_wait waiting;
     done = λ d step all. all;
@@ -236,13 +244,14 @@ module _ {S : Type 0} (content : S → Content) (place : S → ℕ → Content) 
 
   pub settling_next : (old now next : S) (before order after : List Entry) (waiting : List Waiting) (txn : Waiting) (left : List Waiting) (lines more : List ℕ) (o : Outcome)
       → IsSettling content place calls old now before order waiting (txn ∷ left) lines
-      → WorksOn content place calls now next order after txn.id → IsWorth (content next) txn (stage.Settled o) → more ≡ lines ++ state_line txn.id (settled_state o)
+      → WorksOn content place calls now next order after txn.id → Uses (content now) (content next) 1 1 0 0 → IsWorth (content next) txn (stage.Settled o) → more ≡ lines ++ state_line txn.id (settled_state o)
       → IsSettling content place calls old next before after waiting left more
-  settling_next old now next before order after waiting txn left lines more o h works worth printed =
+  settling_next old now next before order after waiting txn left lines more o h works uses worth printed =
       let distinct = and_parts _ _ h.begun.distinct in
       let apart = apart_from txn.id left (not_false (waits left txn.id) distinct.0) in
       record {
         works = batch_works content place calls old now next before order after waiting txn.id h.within.0 h.works works;
+        uses = uses_one_more (length left) h.uses uses;
         begun = record {
           calm = record { sound = worth.sound; plain = worth.plain; rests = alone_rest txn.id worth.alone (settled_now (content next) txn o worth.stage) };
           submitted = both_every (λ other. other.id ≢ txn.id) (IsSubmitted (content now)) (IsSubmitted (content next)) (λ other apart there. works.others.records other.id apart ∙ there) left apart h.begun.submitted.1;
@@ -266,6 +275,10 @@ module _ {S : Type 0} (content : S → Content) (place : S → ℕ → Content) 
         ended = h.done (content now) same tt;
         text = sym (h.text (content now) same ∙ append-nil lines);
       }
+
+-- what was used up to a transaction, and what its own calls used
+pub uses_up_to_here : {c d e : Content} {m n : ℕ} (k : ℕ) → Uses c d m n (suc k) (suc k) → Uses d e 1 1 0 0 → Uses c e m n 0 0
+uses_up_to_here k h one = record { counter = omega (arith, h.counter, one.counter); numbers = λ key. omega (arith, h.numbers key, one.numbers key) }
 
 -- ---- the Run
 

@@ -9,3 +9,4 @@ pub mod Sessions
 pub mod Listed
 pub mod Readings
 pub mod BatchRuns
+pub mod Spending

@@ -4,8 +4,8 @@ use Rattle.store_trait.specs.Calls.{CallsGoOn, OneCall, Rose}
 use Rattle.store_trait.specs.Contents.{Content}
 use Rattle.txn_cli.specs.Faulting.{fault_of_line}
 use Rattle.txn_io.specs.Lines.{first_line, after_line, line_cost, reading, unless_passed, limit_passed}
-use Rattle.txn_cli.specs.Play.{Progress, Plays, IsAt, IsPlayed, IsRefused, PlaysLine, Refuses, RunsWaiting}
-use Rattle.txn_cli.specs.Refusals.{IsOfLine, not_built}
+use Rattle.txn_cli.specs.Play.{Progress, Plays, IsAt, IsPlayed, IsRefusedAt, PlaysLine, Refuses, RunsWaiting}
+use Rattle.txn_cli.specs.Refusals.{IsOfLine}
 use Rattle.txn_cli.specs.declared.fault.Fault.{Fault}
 use Rattle.txn_cli.specs.declared.fault.Fault.TheVariants as fault
 use Rattle.txn_io.specs.declared.lines.LineFault.{LineFault}
@@ -34,10 +34,18 @@ one_more script opening n taken input p q line new_taken new_input a first plays
 }
 
 pub refuses_line : (script : List ℕ) (opening : Progress) (n taken : ℕ) (input : List ℕ) (p : Progress) (line : List ℕ) (f : Fault)
-    → IsAt script opening n taken input p → first_line input ≡ Some line → IsRefused line p → f ≡ not_built (n + 1)
+    → IsAt script opening n taken input p → first_line input ≡ Some line → IsRefusedAt line p (n + 1) f → IsOfLine f
     → Refuses script opening f
-refuses_line script opening n taken input p line f a first refused e =
-    subst (λ (x : Fault). Refuses script opening x) (sym e) (Refuses.NotBuilt n p line a.plays (ap first_line a.rest ∙ first) refused)
+refuses_line script opening n taken input p line (fault.Line number text) a first refused is =
+    subst (λ (m : ℕ). Refuses script opening (fault.Line m text)) (sym refused.0) (Refuses.Stated n p line text a.plays (ap first_line a.rest ∙ first) refused.1)
+refuses_line script opening n taken input p line fault.Words a first refused is = elim is [ ]
+refuses_line script opening n taken input p line fault.Store a first refused is = elim is [ ]
+refuses_line script opening n taken input p line fault.Input a first refused is = elim is [ ]
+refuses_line script opening n taken input p line fault.Output a first refused is = elim is [ ]
+refuses_line script opening n taken input p line fault.OutOfMemory a first refused is = elim is [ ]
+refuses_line script opening n taken input p line (fault.Spent e) a first refused is = elim is [ ]
+refuses_line script opening n taken input p line (fault.Broken e) a first refused is = elim is [ ]
+refuses_line script opening n taken input p line (fault.Repeated id) a first refused is = elim is [ ]
 
 pub ends : (script : List ℕ) (opening : Progress) (n taken : ℕ) (input : List ℕ) (p q : Progress)
     → IsAt script opening n taken input p → first_line input ≡ None → RunsWaiting p.waiting p q → IsPlayed script opening q

@@ -1,15 +1,19 @@
 -- How a call comes from line to line, with what it writes.
-use Rattle.std.proofs.Common.{◌≡◌, ◌≢◌, ℕ, ◌+◌, Bool, List, [], ◌++◌, Option, Some, None, Result, Ok, Err, IfErr, IsTrue, ◌⊎◌, ⊎_elim, inl, refl, sym, ap, ◌∙◌, subst}
+use Rattle.std.proofs.Common.{◌≡◌, ◌≢◌, ℕ, ◌+◌, Bool, false, length, List, [], ◌++◌, Option, Some, None, Result, Ok, Err, IfErr, IsTrue, ◌⊎◌, ⊎_elim, inl, refl, sym, ap, ◌∙◌, subst}
 use Rattle.std.specs.FinMap.{empty}
 use Rattle.std.proofs.lemmas.List.{append-nil, append_assoc}
 use Rattle.store_trait.specs.Contents.{Content}
 use Rattle.txn_runner.specs.Calm.{IsCalm}
 use Rattle.txn_cli.specs.Batches.{MayRun}
 use Rattle.txn_io.specs.Lines.{first_line, after_line, line_cost}
-use Rattle.txn_cli.specs.Play.{Progress, opening, Plays, IsRefused, RefusedAs}
+use Rattle.txn_cli.specs.Play.{Progress, opening, Plays, IsRefusedAt, RefusedAs, is_allowed}
+use Rattle.txn_cli.specs.Refusals.{IsOfLine, IsUnspent, not_built}
+use Rattle.txn_runner.specs.Numbers.{Suffices}
+use Rattle.txn_script.specs.Faults.{fault_text as script_text}
+use Rattle.txn_script.specs.declared.fault.ScriptFault.TheVariants.{NotBuilt}
 use Rattle.txn_script.specs.Statements.{line_in}
 use Rattle.txn_cli.specs.Texts.{fault_text}
-use Rattle.txn_script.specs.declared.statement.ScriptFault.{ScriptFault}
+use Rattle.txn_script.specs.declared.fault.ScriptFault.{ScriptFault}
 use Rattle.txn_script.specs.declared.statement.Statement.{Statement}
 use Rattle.txn_script.specs.declared.statement.Statement.TheVariants as statement
 use Rattle.txn_cli.specs.Reading.{HasCome, HasDoneLine, HasRunRest, HasPlayed, HasStopped, HasRefused}
@@ -51,8 +55,8 @@ module _ {S : Type 0} (content : S → Content) (old new : Session S) (script : 
       still : at content new [] ≡ at content old []
       still = λ i. record { content = same i; waiting = batch i; begun = begun i; runs = runs i; printed = [] }
 
-pub begins_stopped : (script : List ℕ) (start : Progress) (why : Fault) (runs : List Run) (sink_tells : Bool) (written : List ℕ) → start.printed ≡ [] → runs ≡ start.runs → HasStopped script start why runs sink_tells written written
-begins_stopped script start why runs sink_tells written none kept = record { done = 0; last = start; plays = Plays.Opens; kept = inl kept; writes = λ told other. sym (ap (λ (l : List ℕ). written ++ l) none ∙ append-nil written) }
+pub begins_stopped : (script : List ℕ) (start : Progress) (why : Fault) (runs : List Run) (sink_tells : Bool) (written : List ℕ) → start.printed ≡ [] → runs ≡ start.runs → IsUnspent why → HasStopped script start why runs sink_tells written written
+begins_stopped script start why runs sink_tells written none kept unspent = record { done = 0; last = start; plays = Plays.Opens; kept = inl kept; enough = λ suffices. unspent; writes = λ told other. sym (ap (λ (l : List ℕ). written ++ l) none ∙ append-nil written) }
 
 -- the last line of a refusal was written, or another refusal came
 pub refuses_out : (script : List ℕ) (start : Progress) (why told : Fault) (runs : List Run) (sink_tells : Bool) (old_written written now : List ℕ) (rose : Type 0) → HasStopped script start why runs sink_tells old_written written
@@ -64,6 +68,10 @@ refuses_out script start why told runs sink_tells old_written written now rose h
   last = h.last;
   plays = h.plays;
   kept = h.kept;
+  enough = λ suffices. ⊎_elim
+      (λ same. subst IsUnspent (sym same) (h.enough suffices))
+      (⊎_elim (λ memory. subst IsUnspent (sym memory) tt) (λ output. subst IsUnspent (sym output.0) tt))
+      kept;
   writes = λ tells other enough.
       wrote tells other enough
       ∙ ap (λ (l : List ℕ). l ++ fault_text told) (h.writes tells (λ same. other (⊎_elim (λ it. it ∙ same) (⊎_elim (λ memory. absurd (enough memory)) (λ output. output.0)) kept)))
@@ -71,29 +79,64 @@ refuses_out script start why told runs sink_tells old_written written now rose h
 }
 
 -- what is refused doesn't hang on what was printed
-refused_as : {S : Type 0} (content : S → Content) (session : Session S) (a b : List ℕ) (r : Result (Option Statement) ScriptFault) → RefusedAs r (at content session a) → RefusedAs r (at content session b)
-refused_as content session a b (Ok None) h = h
-refused_as content session a b (Ok (Some (statement.Doc key body))) h = h
-refused_as content session a b (Ok (Some (statement.Submit id ops))) h = h
-refused_as content session a b (Ok (Some statement.Go)) h = h
-refused_as content session a b (Ok (Some statement.Show)) h = h
-refused_as content session a b (Err e) h = h
+refused_as : {S : Type 0} (content : S → Content) (session : Session S) (a b text : List ℕ) (r : Result (Option Statement) ScriptFault) → RefusedAs r (at content session a) text → RefusedAs r (at content session b) text
+refused_as content session a b text (Ok None) h = h
+refused_as content session a b text (Ok (Some (statement.Doc key body))) h = h
+refused_as content session a b text (Ok (Some (statement.Submit id ops info))) h = h
+refused_as content session a b text (Ok (Some statement.Go)) h = h
+refused_as content session a b text (Ok (Some statement.Show)) h = h
+refused_as content session a b text (Err e) h = h
 
-pub refused_alike : {S : Type 0} (content : S → Content) (session : Session S) (a b line : List ℕ) → IsRefused line (at content session a) → IsRefused line (at content session b)
-refused_alike content session a b line h = refused_as content session a b (line_in line) h
+pub refused_alike : {S : Type 0} (content : S → Content) (session : Session S) (a b line : List ℕ) (number : ℕ) (f : Fault) → IsRefusedAt line (at content session a) number f → IsRefusedAt line (at content session b) number f
+refused_alike content session a b line number (fault.Line other text) h = (h.0, refused_as content session a b text (line_in line) h.1)
+refused_alike content session a b line number fault.Words h = tt
+refused_alike content session a b line number fault.Store h = tt
+refused_alike content session a b line number fault.Input h = tt
+refused_alike content session a b line number fault.Output h = tt
+refused_alike content session a b line number fault.OutOfMemory h = tt
+refused_alike content session a b line number (fault.Spent e) h = tt
+refused_alike content session a b line number (fault.Broken e) h = tt
+refused_alike content session a b line number (fault.Repeated id) h = tt
+
+-- a statement that isn't built, or a fault of the line, refuses it
+pub unbuilt_line : {S : Type 0} (content : S → Content) (session : Session S) (line : List ℕ) (number : ℕ) (s : Statement) (f : Fault) → line_in line ≡ Ok (Some s)
+    → (IsOfLine f → is_allowed (at content session []) s ≡ false) → (IsOfLine f → f ≡ not_built number) → IsRefusedAt line (at content session []) number f
+unbuilt_line content session line number s (fault.Line other text) read refused is =
+    (number_of (is tt), subst (λ (r : Result (Option Statement) ScriptFault). RefusedAs r (at content session []) text) (sym read) (refused tt, text_of (is tt)))
+  where
+    number_of : fault.Line other text ≡ not_built number → other ≡ number
+    number_of e = cc
+
+    text_of : fault.Line other text ≡ not_built number → text ≡ script_text NotBuilt
+    text_of e = cc
+unbuilt_line content session line number s fault.Words read refused is = tt
+unbuilt_line content session line number s fault.Store read refused is = tt
+unbuilt_line content session line number s fault.Input read refused is = tt
+unbuilt_line content session line number s fault.Output read refused is = tt
+unbuilt_line content session line number s fault.OutOfMemory read refused is = tt
+unbuilt_line content session line number s (fault.Spent e) read refused is = tt
+unbuilt_line content session line number s (fault.Broken e) read refused is = tt
+unbuilt_line content session line number s (fault.Repeated id) read refused is = tt
+
+pub misread_line : {S : Type 0} (content : S → Content) (session : Session S) (line : List ℕ) (number : ℕ) (why : ScriptFault) (f : Fault) → line_in line ≡ Err why
+    → (f ≡ fault.Line number (script_text why)) ⊎ (f ≡ fault.OutOfMemory) → IsRefusedAt line (at content session []) number f
+misread_line content session line number why f read is = ⊎_elim
+    (λ same. subst (IsRefusedAt line (at content session []) number) (sym same) (refl, subst (λ (r : Result (Option Statement) ScriptFault). RefusedAs r (at content session []) (script_text why)) (sym read) refl))
+    (λ memory. subst (IsRefusedAt line (at content session []) number) (sym memory) tt)
+    is
 
 -- ---- from line to line
 
 module _ {S : Type 0} (content : S → Content) (script : List ℕ) (start : Progress) (n taken : ℕ) (input : List ℕ) (session : Session S) (sink_tells : Bool) (old_written written : List ℕ) where
-  pub stops : (why : Fault) (runs : List Run) (now : List ℕ) → HasCome content script start n taken input session sink_tells old_written written → GrowsByOne session.runs.items runs → (IsTrue sink_tells → why ≢ fault.Output → now ≡ written)
+  pub stops : (why : Fault) (runs : List Run) (now : List ℕ) → HasCome content script start n taken input session sink_tells old_written written → GrowsByOne session.runs.items runs → (Suffices (content session.store) (length session.batch) → IsUnspent why) → (IsTrue sink_tells → why ≢ fault.Output → now ≡ written)
       → HasStopped script start why runs sink_tells old_written now
-  stops why runs now h kept unwritten = record { done = n; last = at content session h.printed; plays = h.plays.plays; kept = kept; writes = λ told other. unwritten told other ∙ h.writes told }
+  stops why runs now h kept enough unwritten = record { done = n; last = at content session h.printed; plays = h.plays.plays; kept = kept; enough = enough; writes = λ told other. unwritten told other ∙ h.writes told }
 
   -- the same, of how the batch that waits at the end is run
-  pub stops_at_end : (result : Result (Unit {0}) Fault) (runs : List Run) (now : List ℕ) → HasCome content script start n taken input session sink_tells old_written written → GrowsByOne session.runs.items runs → (IsTrue sink_tells → IfErr result (λ f. f ≢ fault.Output → now ≡ written))
+  pub stops_at_end : (result : Result (Unit {0}) Fault) (runs : List Run) (now : List ℕ) → HasCome content script start n taken input session sink_tells old_written written → GrowsByOne session.runs.items runs → (Suffices (content session.store) (length session.batch) → IfErr result IsUnspent) → (IsTrue sink_tells → IfErr result (λ f. f ≢ fault.Output → now ≡ written))
       → IfErr result (λ f. HasStopped script start f runs sink_tells old_written now)
-  stops_at_end (Ok x) runs now h kept unwritten = tt
-  stops_at_end (Err f) runs now h kept unwritten = stops f runs now h kept unwritten
+  stops_at_end (Ok x) runs now h kept enough unwritten = tt
+  stops_at_end (Err f) runs now h kept enough unwritten = stops f runs now h kept enough unwritten
 
   pub plays_out : (next : Session S) (now : List ℕ) → HasCome content script start n taken input session sink_tells old_written written → first_line input ≡ None
       → HasRunRest content session next sink_tells written now → HasPlayed script start (content next.store) next.runs.items sink_tells old_written now

@@ -1,5 +1,5 @@
 -- A batch: transactions that wait, are submitted, and are settled.
-use Rattle.std.specs.Prelude.{◌≡◌, true, false, Bool, not, ◌&&◌, ℕ, List, [], ◌∷◌, ◌++◌, Option, Some, None, IsTrue}
+use Rattle.std.specs.Prelude.{◌≡◌, true, false, Bool, not, ◌&&◌, ℕ, List, [], ◌∷◌, ◌++◌, length, Option, Some, None, IsTrue}
 use Rattle.std.specs.List.{list_any, list_all, flat_map}
 use Rattle.txn_record.specs.declared.entry.Entry.{Entry}
 use Rattle.txn_record.specs.declared.entry.Outcome.{Outcome}
@@ -15,6 +15,8 @@ use Rattle.store_trait.specs.View.{look, record_at}
 use Rattle.store_laws.specs.Alone.{IsAtRest}
 use Rattle.store_laws.specs.Plain.{IsPlain}
 use Rattle.store_laws.specs.Trail.{IsRecorded}
+use Rattle.txn_runner.specs.Built.{is_built}
+use Rattle.txn_runner.specs.Numbers.{Uses}
 use Rattle.txn_runner.specs.Running.{RunGoesOn}
 use Rattle.txn_runner.specs.Settling.{IsSettled, IsSubmitted, HasDocuments}
 use Rattle.txn_runner.specs.Store.{has_document}
@@ -33,6 +35,10 @@ are_distinct (txn ∷ waiting) = not (waits waiting txn.id) && are_distinct wait
 abbrev pub Every : (Waiting → Type 0) → List Waiting → Type 0
 Every P [] = Unit {0}
 Every P (txn ∷ waiting) = P txn × Every P waiting
+
+-- each transaction can be settled
+abbrev pub are_built : List Waiting → Bool
+are_built waiting = list_all (λ txn. is_built txn.ops) waiting
 
 -- ---- before it is run
 
@@ -104,6 +110,7 @@ KeepsPresent old new = (id : TxnId) (rec : Record) → record_at old id ≡ Some
 
 pub record IsSubmitting {S : Type 0} (content : S → Content) (place : S → ℕ → Content) (calls : S → ℕ) (old now : S) (waiting left : List Waiting) : Type 0 where
   pub works : (order : List Entry) → WorksOnBatch content place calls old now order order waiting
+  pub uses : Uses (content old) (content now) 0 0 0 0
   pub calm : IsCalm (content now)
   pub may_begin : Every (MayBegin (content now)) left
   pub distinct : are_distinct left ≡ true
@@ -112,6 +119,7 @@ pub record IsSubmitting {S : Type 0} (content : S → Content) (place : S → �
 
 pub record IsSettling {S : Type 0} (content : S → Content) (place : S → ℕ → Content) (calls : S → ℕ) (old now : S) (before order : List Entry) (waiting left : List Waiting) (lines : List ℕ) : Type 0 where
   pub works : WorksOnBatch content place calls old now before order waiting
+  pub uses : Uses (content old) (content now) (length waiting) (length waiting) (length left) (length left)
   pub begun : IsBegun (content now) left
   pub within : Every (λ txn. waits waiting txn.id ≡ true) left
   pub done : (d : Content) → IsStep (content now) d → Every (HasEnded d) left → Every (HasEnded d) waiting
@@ -125,3 +133,4 @@ pub record IsSubmittingBatch {S : Type 0} (tells : Bool) (content : S → Conten
 pub record IsSettlingBatch {S : Type 0} (tells : Bool) (content : S → Content) (place : S → ℕ → Content) (calls faults : S → ℕ) (old now : S) (before order : List Entry) (waiting left : List Waiting) (lines : List ℕ) : Type 0 where
   pub told : IsTrue tells → IsSettling content place calls old now before order waiting left lines
   pub made : CallsGoOn tells content place calls faults old now
+  pub built : are_built left ≡ true

@@ -1,4 +1,4 @@
-use Rattle.std.specs.Prelude.{◌≡◌, ℕ, zero, suc, ◌+◌, ◌&&◌, Bool, true, false, not, nat_lt, pos, List, [], ◌∷◌, ◌++◌, length, Option, Some, None, Result, Ok, Err, codes}
+use Rattle.std.specs.Prelude.{◌≡◌, ℕ, zero, suc, ◌+◌, ◌&&◌, Bool, true, false, not, nat_lt, pos, List, [], ◌∷◌, ◌++◌, length, Option, Some, None, is_none, Result, Ok, Err, codes}
 use Rattle.std.specs.FinMap.{insert}
 use Rattle.std.specs.List.{list_all}
 use Rattle.doc_value.specs.declared.value.Value.{Value}
@@ -23,7 +23,11 @@ use Rattle.txn_cli.specs.Texts.{documents_text}
 use Rattle.txn_cli.specs.declared.done.Run.{Run}
 use Rattle.txn_script.specs.declared.statement.Statement.{Statement}
 use Rattle.txn_script.specs.declared.statement.Statement.TheVariants as statement
-use Rattle.txn_script.specs.declared.statement.ScriptFault.{ScriptFault}
+use Rattle.txn_script.specs.Faults.{fault_text as script_text}
+use Rattle.txn_script.specs.declared.fault.ScriptFault.{ScriptFault}
+use Rattle.txn_script.specs.declared.fault.ScriptFault.TheVariants.{NotBuilt}
+use Rattle.txn_runner.specs.Built.{is_built}
+use Rattle.txn_runner.specs.Numbers.{Suffices}
 use Rattle.txn_runner.specs.declared.waiting.Waiting.{Waiting}
 
 -- How far a script has come: what the store holds, the transactions that wait, whether a statement
@@ -48,11 +52,11 @@ abbrev pub most_waiting : ℕ
 most_waiting = 10000
 
 -- Which statements are built. A `doc` line stands before every other statement and names a key that
--- has no document. A transaction is on documents that are there, under an id that has no record and
--- doesn't wait, and fewer than 10,000 wait.
+-- has no document. A transaction has no info and one operation, which only asks or updates, on a document
+-- that is there; its id has no record and doesn't wait, and fewer than 10,000 wait.
 abbrev pub is_allowed : Progress → Statement → Bool
 is_allowed p (statement.Doc key body) = not p.begun && not (has_document p.content key)
-is_allowed p (statement.Submit id ops) = nat_lt (length p.waiting) most_waiting && not (waits p.waiting id) && not (has_record p.content id) && list_all (λ op. has_document p.content op.key) ops
+is_allowed p (statement.Submit id ops info) = nat_lt (length p.waiting) most_waiting && not (waits p.waiting id) && is_none info && is_built ops && not (has_record p.content id) && list_all (λ op. has_document p.content op.key) ops
 is_allowed p statement.Go = true
 is_allowed p statement.Show = true
 
@@ -92,7 +96,7 @@ RunsWaiting (_ ∷ _) p q = RunsBatch p q
 -- what a statement does
 abbrev pub Performs : Statement → Progress → Progress → Type 0
 Performs (statement.Doc key body) p q = q ≡ record p { content = insert p.content (name.Doc key) (placed_doc body) }
-Performs (statement.Submit id ops) p q = q ≡ record p { waiting = p.waiting ++ record { id = id; ops = ops } ∷ []; begun = true }
+Performs (statement.Submit id ops info) p q = q ≡ record p { waiting = p.waiting ++ record { id = id; ops = ops } ∷ []; begun = true }
 Performs statement.Go p q = RunsBatch p q
 Performs statement.Show p q = (r : Progress) × RunsWaiting p.waiting p r × (q ≡ record r { begun = true; printed = r.printed ++ documents_text (meaning r.content) })
 
@@ -110,14 +114,19 @@ PlaysAs (Err _) p q = ⊥
 abbrev pub PlaysLine : List ℕ → Progress → Progress → Type 0
 PlaysLine line p q = PlaysAs (line_in line) p q
 
--- a line is refused: it is no statement, or one that isn't built
-abbrev pub RefusedAs : Result (Option Statement) ScriptFault → Progress → Type 0
-RefusedAs (Ok None) p = ⊥
-RefusedAs (Ok (Some s)) p = is_allowed p s ≡ false
-RefusedAs (Err _) p = Unit {0}
+-- a line is refused by that text: by the one of its fault, or as a statement that isn't built
+abbrev pub RefusedAs : Result (Option Statement) ScriptFault → Progress → List ℕ → Type 0
+RefusedAs (Ok None) p text = ⊥
+RefusedAs (Ok (Some s)) p text = (is_allowed p s ≡ false) × (text ≡ script_text NotBuilt)
+RefusedAs (Err why) p text = text ≡ script_text why
 
-abbrev pub IsRefused : List ℕ → Progress → Type 0
-IsRefused line p = RefusedAs (line_in line) p
+abbrev pub IsRefused : List ℕ → Progress → List ℕ → Type 0
+IsRefused line p text = RefusedAs (line_in line) p text
+
+-- a refusal of a line has that line's number and its text
+abbrev pub IsRefusedAt : List ℕ → Progress → ℕ → Fault → Type 0
+IsRefusedAt line p number (fault.Line at text) = (at ≡ number) × IsRefused line p text
+IsRefusedAt line p number _ = Unit {0}
 
 -- the bytes of a script behind its first n lines
 abbrev pub after_lines : ℕ → List ℕ → List ℕ
@@ -151,9 +160,17 @@ pub record IsPlayed (script : List ℕ) (opening end : Progress) : Type 0 where
 -- The line that a script is refused at: the first that isn't done. It is refused by its length, by
 -- that of the script up to it, or for what it states.
 pub data Refuses (script : List ℕ) (opening : Progress) : Fault → Type 0 where
-  NotBuilt : (n : ℕ) (p : Progress) (line : List ℕ) → Plays script opening n p → first_line (after_lines n script) ≡ Some line → IsRefused line p → Refuses script opening (fault.Line (n + 1) (codes "not built yet"))
+  Stated : (n : ℕ) (p : Progress) (line text : List ℕ) → Plays script opening n p → first_line (after_lines n script) ≡ Some line → IsRefused line p text → Refuses script opening (fault.Line (n + 1) text)
   TooLong : (n : ℕ) (p : Progress) → Plays script opening n p → reading (taken_by n script) (after_lines n script) ≡ Err line_fault.TooLong → Refuses script opening (fault.Line (n + 1) (codes "too long"))
   ScriptTooLong : (n : ℕ) (p : Progress) → Plays script opening n p → reading (taken_by n script) (after_lines n script) ≡ Err line_fault.ScriptTooLong → Refuses script opening (fault.Line (n + 1) (codes "script too long"))
+
+-- no line of a script is refused
+abbrev pub IsValid : List ℕ → Progress → Type 0
+IsValid script opening = (why : Fault) → Refuses script opening why → ⊥
+
+-- wherever a script comes to, nonces and numbers suffice for what waits there
+abbrev pub HasEnough : List ℕ → Progress → Type 0
+HasEnough script opening = (n : ℕ) (p : Progress) → Plays script opening n p → Suffices p.content (length p.waiting)
 
 -- the words of the program: the one word `run`
 abbrev pub is_grammar : List (List ℕ) → Bool

@@ -17,6 +17,11 @@ IsOfLine _ = ⊥
 abbrev pub not_built : ℕ → Fault
 not_built line = fault.Line line (codes "not built yet")
 
+-- neither a nonce nor a number was wanting
+abbrev pub IsUnspent : Fault → Type 0
+IsUnspent (fault.Spent _) = ⊥
+IsUnspent _ = Unit {0}
+
 -- the refusals that running a batch may end with
 abbrev pub IsOfRun : Fault → Type 0
 IsOfRun fault.Store = Unit {0}

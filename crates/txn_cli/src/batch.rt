@@ -1,7 +1,8 @@
 //! The transactions that wait for the next `go`.
 
-ghost use Rattle.std.specs.Prelude.{◌≡◌, ◌==◌, [], ◌∷◌, ◌++◌, ◌↔◌, length, nat_le, IsTrue, OnOk, OnErr};
-ghost use Rattle.txn_cli.specs.Batches.{waits};
+ghost use Rattle.std.specs.Prelude.{◌≡◌, true, ◌==◌, [], ◌∷◌, ◌++◌, ◌↔◌, length, nat_le, IsTrue, OnOk, OnErr};
+ghost use Rattle.txn_cli.specs.Batches.{waits, are_built};
+ghost use Rattle.txn_runner.specs.Built.{is_built};
 ghost use Rattle.txn_cli.specs.Play.{most_waiting};
 
 use doc_value::OutOfMemory;
@@ -28,7 +29,7 @@ impl Model for Batch {
     ghost use Rattle.std.specs.BTreeSet.{keys};
     ghost use Rattle.txn_runner.specs.declared.waiting.Waiting.{Waiting};
     ghost use Rattle.txn_runner.specs.contracts.waiting.Waiting as waiting;
-    ghost use Rattle.txn_cli.specs.Index.{IsIndex};
+    ghost use Rattle.txn_cli.specs.Index.{IsBatch};
 
     ghost Value = { List Waiting };
 
@@ -36,7 +37,7 @@ impl Model for Batch {
 
     ghost view = { λ b. b.list.items };
 
-    ghost invariant = { λ b. IsIndex (keys b.ids) b.list.items };
+    ghost invariant = { λ b. IsBatch (keys b.ids) b.list.items };
 }
 
 impl Batch {
@@ -72,13 +73,15 @@ impl Batch {
 
     /// The transactions, in the order in which they came.
     pub fn as_slice(&self) -> &[Waiting]
-        ensures { result.now ≡ self.now }
+        ensures list { result.now ≡ self.now }
+        ensures built { are_built result.now ≡ true }
     {
         self.list.as_slice()
     }
 
     /// Adds a transaction at the end.
     pub fn push(&mut self, id: TxnId, ops: Ops) -> Result<(), OutOfMemory>
+        requires built { is_built ops ≡ true }
         ensures ok { OnOk result (self.new ≡ self.old ++ record { id = id; ops = ops } ∷ []) }
         ensures err { OnErr result (self.new ≡ self.old) }
     {

@@ -1,22 +1,23 @@
 //! The top call.
 
-ghost use Rattle.std.specs.Prelude.{◌≡◌, [], ◌≢◌, ◌≤◌, ◌⊎◌, ℕ, Err, true, false, IsTrue, OnOk, OnErr, IfOk, IfErr, IfSome, IfNone, IsErrOf, map, string_bytes, ◌++◌, if◌then◌else◌};
+ghost use Rattle.std.specs.Prelude.{◌≡◌, [], ◌≢◌, ◌≤◌, ◌⊎◌, ℕ, Err, true, false, IsTrue, OnOk, OnErr, IfOk, IfErr, IfSome, IfNone, IsErrOf, map, string_bytes, length, ◌++◌, if◌then◌else◌};
 ghost use Rattle.std.specs.FinMap.{empty};
 ghost use Rattle.std.specs.List.{list_any};
 ghost use Rattle.store_trait.specs.Calls.{CallsGoOn, Rose};
 ghost use Rattle.store_trait.specs.Contents.{Content};
 ghost use Rattle.txn_cli.specs.Faulting.{status_of, fault_of_line};
 ghost use Rattle.txn_cli.specs.Outcomes.{has_aborted, is_aborted};
-ghost use Rattle.txn_cli.specs.Play.{opening, Refuses, IsRefused, is_grammar};
+ghost use Rattle.txn_cli.specs.Play.{opening, Refuses, IsRefusedAt, IsValid, HasEnough, is_grammar};
 ghost use Rattle.txn_cli.specs.Reading.{HasDoneLine, HasRunRest, HasPlayed, HasStopped, HasRefused};
-ghost use Rattle.txn_cli.specs.Refusals.{HasReason, IsOfLine, IsOfStatement, IsOfReading, not_built};
+ghost use Rattle.txn_cli.specs.Refusals.{HasReason, IsOfLine, IsOfStatement, IsOfReading, IsUnspent};
 ghost use Rattle.txn_cli.specs.Runs.{AreFaithful, GrowsByOne, RunsGoOn};
 ghost use Rattle.txn_cli.specs.Sessions.{IsHeld, at};
 ghost use Rattle.txn_cli.specs.Texts.{fault_text};
+ghost use Rattle.txn_runner.specs.Numbers.{Suffices};
 
 use crate::batch::Batch;
 use crate::done::{Done, Run};
-use crate::fault::{Fault, refused};
+use crate::fault::{Fault, misread, refused};
 use crate::print::last_line;
 use crate::session::Session;
 use std::alloc::Global;
@@ -64,6 +65,15 @@ pub fn command<S: Store, I: Source, O: Sink>(
 
     // 9 comes only where nonces or revision numbers are used up, and 11 never over a store that tells.
     ensures reason { IsTrue S.tells → S.content store ≡ empty → IfSome result.fault (HasReason (S.content result.store)) }
+
+    // Where the words are in the grammar, no line is refused, nonces and numbers suffice and nothing failed,
+    // every line is done, unless memory is wanting.
+    ensures complete { IsTrue I.tells → IsTrue S.tells → S.content store ≡ empty →
+        IsTrue (is_grammar (map string_bytes words.now)) →
+        IsValid (I.rest input.old) (opening (S.content store)) → HasEnough (I.rest input.old) (opening (S.content store)) →
+        (Rose (S.faults store) (S.faults result.store) → ⊥) → (Rose (I.faults input.old) (I.faults input.new) → ⊥) →
+        (Rose (O.faults output.old) (O.faults output.new) → ⊥) →
+        (result.fault ≡ None) ⊎ (result.fault ≡ Some Fault.OutOfMemory) }
 
     // 5, 6 and 7 come only where the store, the input or the output counted a fault in this call.
     ensures store { result.fault ≡ Some Fault.Store → Rose (S.faults store) (S.faults result.store) }
@@ -253,10 +263,11 @@ fn play_line<S: Store, O: Sink>(
         RunsGoOn (S.place session.new.store) session.new.runs.items (S.calls session.new.store) }
     ensures grown { GrowsByOne session.old.runs.items session.new.runs.items }
     ensures reason { IsTrue S.tells → IsTrue session.old.was_empty → IfErr result (HasReason (S.content session.new.store)) }
+    ensures enough { IsTrue S.tells → IsTrue session.old.was_empty →
+        Suffices (S.content session.old.store) (length session.old.batch) → IfErr result IsUnspent }
     ensures unwritten { IsTrue O.tells → IfErr result (λ fault. fault ≢ Fault.Output → O.written output.new ≡ O.written output.old) }
-    ensures refused { IsTrue S.tells → IsTrue session.old.was_empty → IfErr result (λ fault. IsOfLine fault →
-        IsRefused line.now (at S.content session.old [])) }
-    ensures text { IfErr result (λ fault. IsOfLine fault → fault ≡ not_built number) }
+    ensures refused { IsTrue S.tells → IsTrue session.old.was_empty →
+        IfErr result (IsRefusedAt line.now (at S.content session.old []) number) }
     ensures kind { IfErr result IsOfStatement }
     ensures kept { session.new.was_empty ≡ session.old.was_empty }
     ensures store { IsErrOf result Fault.Store → Rose (S.faults session.old.store) (S.faults session.new.store) }
@@ -270,8 +281,8 @@ fn play_line<S: Store, O: Sink>(
             let printed = session.perform(alloc, number, statement)?;
             write(output, printed.as_slice())
         }
-        Err(ScriptFault::NotBuilt) => Err(refused(alloc, number, "not built yet")),
         Err(ScriptFault::OutOfMemory) => Err(Fault::OutOfMemory),
+        Err(fault) => Err(misread(alloc, number, &fault)),
     }
 }
 
@@ -289,6 +300,8 @@ fn finish<S: Store, O: Sink>(
         RunsGoOn (S.place session.new.store) session.new.runs.items (S.calls session.new.store) }
     ensures grown { GrowsByOne session.old.runs.items session.new.runs.items }
     ensures reason { IsTrue S.tells → IsTrue session.old.was_empty → IfErr result (HasReason (S.content session.new.store)) }
+    ensures enough { IsTrue S.tells → IsTrue session.old.was_empty →
+        Suffices (S.content session.old.store) (length session.old.batch) → IfErr result IsUnspent }
     ensures unwritten { IsTrue O.tells → IfErr result (λ fault. fault ≢ Fault.Output → O.written output.new ≡ O.written output.old) }
     ensures never { IsTrue session.old.was_empty → IfErr result (λ fault. IsOfLine fault → ⊥) }
     ensures kind { IfErr result IsOfStatement }
@@ -318,6 +331,7 @@ fn line_fault(alloc: Global, number: u64, fault: LineFault) -> Fault
     ensures exact { result ≢ Fault.OutOfMemory → result ≡ fault_of_line number fault }
     ensures input { result ≡ Fault.Input → fault ≡ LineFault.ReadFault }
     ensures kind { IsOfReading result }
+    ensures unspent { IsUnspent result }
     ensures reason { (c : Content) → HasReason c result }
 {
     match fault {

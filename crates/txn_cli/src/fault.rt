@@ -2,6 +2,7 @@
 
 ghost use Rattle.std.specs.Prelude.{◌≡◌, ◌⊎◌, ◌↔◌, IsTrue};
 ghost use Rattle.txn_cli.specs.Faulting.{status_of, fault_of_step};
+ghost use Rattle.txn_script.specs.Faults.{fault_text as script_text};
 ghost use Rattle.store_trait.specs.Contents.{Content};
 ghost use Rattle.txn_cli.specs.Refusals.{HasReason, IsOfRun};
 ghost use Rattle.txn_runner.specs.Settling.{MayStop};
@@ -11,6 +12,7 @@ use std::alloc::{AllocError, Global};
 use store_trait::StoreError;
 use txn_record::TxnId;
 use txn_runner::StepError;
+use txn_script::ScriptFault;
 
 /// Why a call ended before the end of its script.
 #[derive(Drop)]
@@ -106,6 +108,16 @@ pub fn refused(alloc: Global, line: u64, text: &str) -> Fault
     ensures { (result ≡ Fault.Line line text.now) ⊎ (result ≡ Fault.OutOfMemory) }
 {
     match Text::from_str(alloc, text) {
+        Ok(text) => Fault::Line { line, text },
+        Err(_) => Fault::OutOfMemory,
+    }
+}
+
+/// The refusal of a line that is no statement, by the text of its fault.
+pub fn misread(alloc: Global, line: u64, fault: &ScriptFault) -> Fault
+    ensures { (result ≡ Fault.Line line (script_text fault.now)) ⊎ (result ≡ Fault.OutOfMemory) }
+{
+    match fault.text(alloc) {
         Ok(text) => Fault::Line { line, text },
         Err(_) => Fault::OutOfMemory,
     }

@@ -1,11 +1,12 @@
 //! How a batch is run.
 
-ghost use Rattle.std.specs.Prelude.{List, IsTrue, IfOk, IfErr, OnOk, IsErrOf};
+ghost use Rattle.std.specs.Prelude.{◌≡◌, true, List, length, IsTrue, IfOk, IfErr, OnOk, IsErrOf};
 ghost use Rattle.store_trait.specs.Calls.{CallsGoOn, Rose};
 ghost use Rattle.txn_runner.specs.Calm.{IsCalm};
-ghost use Rattle.txn_cli.specs.Batches.{MayRun, IsBegun, IsDoneWith, WorksOnBatch};
+ghost use Rattle.txn_cli.specs.Batches.{MayRun, IsBegun, IsDoneWith, WorksOnBatch, are_built};
+ghost use Rattle.txn_runner.specs.Numbers.{Suffices, Uses};
 ghost use Rattle.txn_cli.specs.Play.{HasRunBatch};
-ghost use Rattle.txn_cli.specs.Refusals.{IsOfRun, HasReason};
+ghost use Rattle.txn_cli.specs.Refusals.{IsOfRun, IsUnspent, HasReason};
 ghost use Rattle.txn_cli.specs.Runs.{GrowsByOne, RunsGoOn};
 ghost use Rattle.txn_record.specs.declared.entry.Entry.{Entry as LogEntry};
 
@@ -29,12 +30,14 @@ pub fn run_batch<S: Store>(
 ) -> Result<Vec<u8>, Fault>
     requires may_run { IsTrue S.tells → MayRun (S.content store.old) batch.now }
     requires runs { IsTrue S.tells → RunsGoOn (S.place store.old) runs.old.items (S.calls store.old) }
+    requires built { are_built batch.now ≡ true }
     ensures runs { IsTrue S.tells → RunsGoOn (S.place store.new) runs.new.items (S.calls store.new) }
     ensures done { IsTrue S.tells → IfOk result
         (λ lines. HasRunBatch (S.content store.old) (S.content store.new) batch.now runs.old.items runs.new.items lines.items) }
     ensures calm { IsTrue S.tells → OnOk result (IsCalm (S.content store.new)) }
     ensures grown { GrowsByOne runs.old.items runs.new.items }
     ensures reason { IsTrue S.tells → IfErr result (HasReason (S.content store.new)) }
+    ensures enough { IsTrue S.tells → Suffices (S.content store.old) (length batch.now) → IfErr result IsUnspent }
     ensures kind { IfErr result IsOfRun }
     ensures calls { CallsGoOn S.tells S.content S.place S.calls S.faults store.old store.new }
     ensures fault { IsErrOf result Fault.Store → Rose (S.faults store.old) (S.faults store.new) }
@@ -66,9 +69,11 @@ fn run_all<S: Store>(
     batch: &[Waiting],
 ) -> Result<Vec<u8>, Fault>
     requires may_run { IsTrue S.tells → MayRun (S.content store.old) batch.now }
+    requires built { are_built batch.now ≡ true }
     ensures works { IsTrue S.tells →
         WorksOnBatch S.content S.place S.calls store.old store.new order.old.items order.new.items batch.now }
     ensures done { IsTrue S.tells → IfOk result (λ lines. IsDoneWith (S.content store.new) batch.now lines.items) }
+    ensures uses { IsTrue S.tells → Uses (S.content store.old) (S.content store.new) (length batch.now) (length batch.now) 0 0 }
     ensures reason { IsTrue S.tells → IfErr result (HasReason (S.content store.new)) }
     ensures kind { IfErr result IsOfRun }
     ensures calls { CallsGoOn S.tells S.content S.place S.calls S.faults store.old store.new }
@@ -86,6 +91,7 @@ fn submit_all<S: Store>(alloc: Global, store: &mut S, batch: &[Waiting]) -> Resu
     ensures works { IsTrue S.tells → (order : List LogEntry) →
         WorksOnBatch S.content S.place S.calls store.old store.new order order batch.now }
     ensures begun { IsTrue S.tells → OnOk result (IsBegun (S.content store.new) batch.now) }
+    ensures uses { IsTrue S.tells → Uses (S.content store.old) (S.content store.new) 0 0 0 0 }
     ensures reason { IsTrue S.tells → IfErr result (HasReason (S.content store.new)) }
     ensures kind { IfErr result IsOfRun }
     ensures calls { CallsGoOn S.tells S.content S.place S.calls S.faults store.old store.new }
@@ -109,9 +115,11 @@ fn settle_all<S: Store>(
     batch: &[Waiting],
 ) -> Result<Vec<u8>, Fault>
     requires begun { IsTrue S.tells → IsBegun (S.content store.old) batch.now }
+    requires built { are_built batch.now ≡ true }
     ensures works { IsTrue S.tells →
         WorksOnBatch S.content S.place S.calls store.old store.new order.old.items order.new.items batch.now }
     ensures done { IsTrue S.tells → IfOk result (λ lines. IsDoneWith (S.content store.new) batch.now lines.items) }
+    ensures uses { IsTrue S.tells → Uses (S.content store.old) (S.content store.new) (length batch.now) (length batch.now) 0 0 }
     ensures reason { IsTrue S.tells → IfErr result (HasReason (S.content store.new)) }
     ensures kind { IfErr result IsOfRun }
     ensures calls { CallsGoOn S.tells S.content S.place S.calls S.faults store.old store.new }

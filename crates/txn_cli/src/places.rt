@@ -1,6 +1,6 @@
 //! What `doc` and `txn` lines ask of the store.
 
-ghost use Rattle.std.specs.Prelude.{◌≡◌, ◌&&◌, not, IsTrue, IfOk, IsErrOf, OnErr, Err, is_some, ◌⊎◌};
+ghost use Rattle.std.specs.Prelude.{◌≡◌, true, ◌&&◌, not, IsTrue, IfOk, IsErrOf, OnErr, Err, is_some, ◌⊎◌};
 ghost use Rattle.std.specs.Bool.{OnTrue};
 ghost use Rattle.std.specs.FinMap.{get, insert};
 ghost use Rattle.std.specs.List.{list_all};
@@ -8,6 +8,7 @@ ghost use Rattle.store_trait.specs.Calls.{CallsGoOn, Rose};
 ghost use Rattle.store_trait.specs.declared.name.Name.TheVariants.{Doc};
 ghost use Rattle.txn_cli.specs.Play.{placed_doc};
 ghost use Rattle.txn_runner.specs.Calm.{IsCalm};
+ghost use Rattle.txn_runner.specs.Built.{is_built};
 ghost use Rattle.txn_runner.specs.Running.{OnlyReads};
 ghost use Rattle.txn_runner.specs.Store.{has_document, has_record};
 
@@ -17,6 +18,7 @@ use sqlite_items::Items;
 use std::alloc::Global;
 use store_trait::{Cell, DocCell, Edit, Name, Store, StoreError};
 use txn_record::{Key, Ops, TxnId};
+use txn_runner::only;
 
 /// Places a document at revision number 0, where its key has none; answers whether it did.
 pub fn place_document<S: Store>(
@@ -49,6 +51,7 @@ pub fn place_document<S: Store>(
 
 /// Whether a transaction may wait: its id has no record, and the documents of its keys are there.
 pub fn may_wait<S: Store>(alloc: Global, store: &mut S, id: TxnId, ops: &Ops) -> Result<bool, Fault>
+    requires built { is_built ops.now ≡ true }
     ensures answer { IsTrue S.tells → IfOk result (λ may. may ≡ (not (has_record (S.content store.old) id)
         && list_all (λ op. has_document (S.content store.old) op.key) ops.now)) }
     ensures reads { IsTrue S.tells → OnlyReads S.content S.place S.calls store.old store.new }
@@ -56,7 +59,7 @@ pub fn may_wait<S: Store>(alloc: Global, store: &mut S, id: TxnId, ops: &Ops) ->
     ensures fault { IsErrOf result Fault.Store → Rose (S.faults store.old) (S.faults store.new) }
     ensures other { OnErr result ((result ≡ Err Fault.Store) ⊎ (result ≡ Err Fault.OutOfMemory)) }
 {
-    let name = Name::Doc(ops.only().key.copy(alloc)?);
+    let name = Name::Doc(only(ops).key.copy(alloc)?);
     if is_there(alloc, store, &Name::Record(id))? {
         return Ok(false);
     }

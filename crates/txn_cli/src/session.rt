@@ -1,12 +1,13 @@
 //! A script as it is played: what each statement does to the store, and what it prints.
 
-ghost use Rattle.std.specs.Prelude.{◌≡◌, ◌≢◌, ◌++◌, [], ℕ, List, false, IsTrue, IfOk, OnOk, IfErr, IsErrOf};
+ghost use Rattle.std.specs.Prelude.{◌≡◌, ◌≢◌, ◌++◌, [], ℕ, List, length, false, IsTrue, IfOk, OnOk, IfErr, IsErrOf};
 ghost use Rattle.store_trait.specs.Calls.{CallsGoOn, Rose};
 ghost use Rattle.store_trait.specs.Contents.{Content};
 ghost use Rattle.txn_cli.specs.Play.{is_allowed, Does, RunsBatch, RunsWaiting};
-ghost use Rattle.txn_cli.specs.Refusals.{HasReason, IsOfLine, IsOfRun, IsOfWork, not_built};
+ghost use Rattle.txn_cli.specs.Refusals.{HasReason, IsOfLine, IsOfRun, IsOfWork, IsUnspent, not_built};
 ghost use Rattle.txn_cli.specs.Runs.{GrowsByOne, RunsGoOn};
 ghost use Rattle.txn_cli.specs.Sessions.{IsHeld, at};
+ghost use Rattle.txn_runner.specs.Numbers.{Suffices};
 ghost use Rattle.txn_script.specs.declared.statement.Statement.TheVariants as statement;
 
 use crate::batch::Batch;
@@ -19,6 +20,7 @@ use doc_value::Value;
 use std::alloc::Global;
 use store_trait::Store;
 use txn_record::{Key, Ops, TxnId};
+use txn_runner::is_built;
 use txn_script::Statement;
 
 /// How far a script has come. `was_empty` says whether the store had no cell as the call began.
@@ -47,6 +49,8 @@ impl<S: Store> Session<S> {
             RunsGoOn (S.place self.new.store) self.new.runs.items (S.calls self.new.store) }
         ensures grown { GrowsByOne self.old.runs.items self.new.runs.items }
         ensures reason { IsTrue S.tells → IsTrue self.old.was_empty → IfErr result (HasReason (S.content self.new.store)) }
+        ensures enough { IsTrue S.tells → IsTrue self.old.was_empty →
+            Suffices (S.content self.old.store) (length self.old.batch) → IfErr result IsUnspent }
         ensures refused { IsTrue S.tells → IsTrue self.old.was_empty → IfErr result (λ fault. IsOfLine fault →
             is_allowed (at S.content self.old []) statement ≡ false) }
         ensures text { IfErr result (λ fault. IsOfLine fault → fault ≡ not_built line) }
@@ -57,7 +61,7 @@ impl<S: Store> Session<S> {
     {
         match statement {
             Statement::Doc { key, body } => self.place(alloc, line, key, body),
-            Statement::Submit { id, ops } => self.submit(alloc, line, id, ops),
+            Statement::Submit { id, ops, info } => self.submit(alloc, line, id, ops, info),
             Statement::Go => self.go(alloc, line),
             Statement::Show => self.show(alloc, line),
         }
@@ -73,6 +77,8 @@ impl<S: Store> Session<S> {
             RunsGoOn (S.place self.new.store) self.new.runs.items (S.calls self.new.store) }
         ensures grown { GrowsByOne self.old.runs.items self.new.runs.items }
         ensures reason { IsTrue S.tells → IsTrue self.old.was_empty → IfErr result (HasReason (S.content self.new.store)) }
+        ensures enough { IsTrue S.tells → IsTrue self.old.was_empty →
+            Suffices (S.content self.old.store) (length self.old.batch) → IfErr result IsUnspent }
         ensures never { IsTrue self.old.was_empty → IfErr result IsOfRun }
         ensures text { IfErr result (λ fault. IsOfLine fault → fault ≡ not_built line) }
         ensures kind { IfErr result IsOfWork }
@@ -96,6 +102,8 @@ impl<S: Store> Session<S> {
             RunsGoOn (S.place self.new.store) self.new.runs.items (S.calls self.new.store) }
         ensures grown { GrowsByOne self.old.runs.items self.new.runs.items }
         ensures reason { IsTrue S.tells → IsTrue self.old.was_empty → IfErr result (HasReason (S.content self.new.store)) }
+        ensures enough { IsTrue S.tells → IsTrue self.old.was_empty →
+            Suffices (S.content self.old.store) (length self.old.batch) → IfErr result IsUnspent }
         ensures refused { IsTrue S.tells → IfErr result (λ fault. IsOfLine fault →
             is_allowed (at S.content self.old []) (statement.Doc key body) ≡ false) }
         ensures text { IfErr result (λ fault. IsOfLine fault → fault ≡ not_built line) }
@@ -114,17 +122,26 @@ impl<S: Store> Session<S> {
         }
     }
 
-    fn submit(&mut self, alloc: Global, line: u64, id: TxnId, ops: Ops) -> Result<Vec<u8>, Fault>
+    fn submit(
+        &mut self,
+        alloc: Global,
+        line: u64,
+        id: TxnId,
+        ops: Ops,
+        info: Option<Value>,
+    ) -> Result<Vec<u8>, Fault>
         requires held { IsTrue S.tells → IsTrue self.old.was_empty → IsHeld S.content S.place S.calls self.old }
         ensures done { IsTrue S.tells → IfOk result (λ lines. (printed : List ℕ) →
-            Does (statement.Submit id ops) (at S.content self.old printed) (at S.content self.new (printed ++ lines.items))) }
+            Does (statement.Submit id ops info) (at S.content self.old printed) (at S.content self.new (printed ++ lines.items))) }
         ensures held { IsTrue S.tells → IsTrue self.old.was_empty → OnOk result (IsHeld S.content S.place S.calls self.new) }
         ensures runs { IsTrue S.tells → IsTrue self.old.was_empty →
             RunsGoOn (S.place self.new.store) self.new.runs.items (S.calls self.new.store) }
         ensures grown { GrowsByOne self.old.runs.items self.new.runs.items }
         ensures reason { IsTrue S.tells → IsTrue self.old.was_empty → IfErr result (HasReason (S.content self.new.store)) }
+        ensures enough { IsTrue S.tells → IsTrue self.old.was_empty →
+            Suffices (S.content self.old.store) (length self.old.batch) → IfErr result IsUnspent }
         ensures refused { IsTrue S.tells → IfErr result (λ fault. IsOfLine fault →
-            is_allowed (at S.content self.old []) (statement.Submit id ops) ≡ false) }
+            is_allowed (at S.content self.old []) (statement.Submit id ops info) ≡ false) }
         ensures text { IfErr result (λ fault. IsOfLine fault → fault ≡ not_built line) }
         ensures kind { IfErr result IsOfWork }
         ensures kept { self.new.was_empty ≡ self.old.was_empty }
@@ -135,6 +152,12 @@ impl<S: Store> Session<S> {
             return Err(unbuilt(alloc, line));
         }
         if self.batch.has(id) {
+            return Err(unbuilt(alloc, line));
+        }
+        if info.is_some() {
+            return Err(unbuilt(alloc, line));
+        }
+        if !is_built(&ops) {
             return Err(unbuilt(alloc, line));
         }
         if !may_wait(alloc, &mut self.store, id, &ops)? {
@@ -154,6 +177,8 @@ impl<S: Store> Session<S> {
             RunsGoOn (S.place self.new.store) self.new.runs.items (S.calls self.new.store) }
         ensures grown { GrowsByOne self.old.runs.items self.new.runs.items }
         ensures reason { IsTrue S.tells → IsTrue self.old.was_empty → IfErr result (HasReason (S.content self.new.store)) }
+        ensures enough { IsTrue S.tells → IsTrue self.old.was_empty →
+            Suffices (S.content self.old.store) (length self.old.batch) → IfErr result IsUnspent }
         ensures never { IsTrue self.old.was_empty → IfErr result IsOfRun }
         ensures text { IfErr result (λ fault. IsOfLine fault → fault ≡ not_built line) }
         ensures kind { IfErr result IsOfWork }
@@ -184,6 +209,8 @@ impl<S: Store> Session<S> {
             RunsGoOn (S.place self.new.store) self.new.runs.items (S.calls self.new.store) }
         ensures grown { GrowsByOne self.old.runs.items self.new.runs.items }
         ensures reason { IsTrue S.tells → IsTrue self.old.was_empty → IfErr result (HasReason (S.content self.new.store)) }
+        ensures enough { IsTrue S.tells → IsTrue self.old.was_empty →
+            Suffices (S.content self.old.store) (length self.old.batch) → IfErr result IsUnspent }
         ensures never { IsTrue self.old.was_empty → IfErr result IsOfRun }
         ensures text { IfErr result (λ fault. IsOfLine fault → fault ≡ not_built line) }
         ensures kind { IfErr result IsOfWork }
@@ -206,6 +233,7 @@ fn unbuilt(alloc: Global, line: u64) -> Fault
     ensures text { IsOfLine result → result ≡ not_built line }
     ensures kind { IsOfWork result }
     ensures reason { (c : Content) → HasReason c result }
+    ensures unspent { IsUnspent result }
     ensures other { result ≢ Fault.Store }
 {
     refused(alloc, line, "not built yet")

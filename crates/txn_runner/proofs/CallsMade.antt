@@ -1,5 +1,5 @@
 -- Calls on a store, one after another.
-use Rattle.std.proofs.Common.{◌≡◌, ℕ, ◌≤◌, Result, Ok, Err, Bool, ⊎_elim, inl, inr, ◌∙◌, arith}
+use Rattle.std.proofs.Common.{ℕ, ◌≤◌, Result, Ok, Err, Bool, ⊎_elim, inl, inr, ◌∙◌, arith}
 use Rattle.store_trait.specs.Calls.{CallsGoOn, OneCall, Rose}
 use Rattle.store_trait.specs.Contents.{Content}
 

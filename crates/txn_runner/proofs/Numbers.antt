@@ -1,5 +1,5 @@
 -- What the edits for a transaction use of nonces and of numbers.
-use Rattle.std.proofs.Common.{◌≡◌, ◌≢◌, ℕ, ℤ, pos, negsuc, zero, suc, ◌+◌, ◌+ℤ◌, ◌≤◌, ◌<◌, Bool, true, false, Option, Some, None, is_some, ◌⊎◌, inl, inr, ⊎_elim, unsigned_abs, refl, sym, ap, subst, ◌∙◌, arith}
+use Rattle.std.proofs.Common.{◌≡◌, ◌≢◌, ℕ, ℤ, pos, negsuc, zero, suc, ◌+◌, ◌+ℤ◌, ◌≤◌, ◌<◌, Bool, true, false, is_some, ◌⊎◌, inl, inr, ⊎_elim, unsigned_abs, refl, sym, ap, subst, arith}
 use Rattle.std.specs.FinMap.{get}
 use Rattle.std.proofs.Math.IntN.{+ℤ_one}
 use Rattle.doc_value.specs.declared.value.Value.{Value}
@@ -8,7 +8,7 @@ use Rattle.txn_record.specs.declared.id.TxnId.{TxnId}
 use Rattle.txn_record.specs.declared.key.Key.{Key}
 use Rattle.store_trait.specs.Contents.{Content}
 use Rattle.store_trait.specs.Edits.{edited, hit}
-use Rattle.store_trait.specs.View.{counter, doc_at}
+use Rattle.store_trait.specs.View.{counter}
 use Rattle.store_trait.specs.declared.edit.Edit.{Edit}
 use Rattle.store_trait.specs.declared.edit.Edit.TheVariants as edit
 use Rattle.store_trait.specs.declared.name.Name.{Name}

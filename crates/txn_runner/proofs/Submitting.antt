@@ -1,44 +1,26 @@
 -- What the submission of a transaction leaves.
-use Rattle.std.proofs.Common.{◌≡◌, ◌≢◌, ℕ, ◌+◌, ◌<◌, ◌≤◌, length, drop, Bool, true, false, not, ◌||◌, List, [], ◌∷◌, ◌++◌, Option, Some, None, is_some, Result, Ok, Err, OnOk, OnErr, IfOk, ◌⊎◌, ⊎_elim, inl, inr, refl, sym, ap, ◌∙◌, subst}
+use Rattle.std.proofs.Common.{◌≡◌, Bool, true, Option, Some, None, is_some, Result, Ok, Err, OnOk, OnErr, IfOk, ◌⊎◌, inl, inr, refl, sym, ap, ◌∙◌, subst}
 use Rattle.std.specs.FinMap.{get}
 use Rattle.std.specs.Option.{option_and_then}
-use Rattle.std.proofs.lemmas.Bool.{and_parts}
-use Rattle.std.proofs.lemmas.Slice.Eq.{bytes_eq-Decides}
-use Rattle.std.proofs.lemmas.List.{append_assoc, append-nil, drop_more}
-use Rattle.std.proofs.Math.ListN.{drop_of_length-le, get_or}
-use Rattle.txn_record.specs.Documents.{after}
-use Rattle.txn_record.specs.States.{is_chosen_state, is_settled_state}
-use Rattle.txn_record.specs.declared.entry.Entry.{Entry}
-use Rattle.txn_record.specs.declared.entry.Outcome.{Outcome}
-use Rattle.txn_record.specs.declared.entry.Outcome.TheVariants as outcome
 use Rattle.txn_record.specs.declared.id.TxnId.{TxnId}
 use Rattle.txn_record.specs.declared.record.Record.{Record}
-use Rattle.txn_record.specs.declared.state.State.{State}
-use Rattle.txn_record.specs.declared.state.State.TheVariants as state
 use Rattle.store_trait.specs.Cells.{as_record}
 use Rattle.store_trait.specs.Contents.{Content}
 use Rattle.store_trait.specs.Edits.{hit, edited}
-use Rattle.store_trait.specs.Later.{may_follow}
-use Rattle.store_trait.specs.Meaning.{meaning}
-use Rattle.store_trait.specs.Names.{same_id}
 use Rattle.store_trait.specs.Soundness.{IsSound}
-use Rattle.store_trait.specs.Steps.{IsStep, IsQuiet}
-use Rattle.store_trait.specs.View.{look, record_at, chosen, settled, state_passes}
+use Rattle.store_trait.specs.Steps.{IsQuiet}
+use Rattle.store_trait.specs.View.{record_at}
 use Rattle.store_trait.specs.declared.cell.Cell.{Cell}
 use Rattle.store_trait.specs.declared.cell.Cell.TheVariants as cell
 use Rattle.store_trait.specs.declared.edit.Edit.TheVariants as edit
 use Rattle.store_trait.specs.declared.name.Name.TheVariants as name
 use Rattle.store_laws.proofs.AfterEdits.{record_edit_queues}
-use Rattle.store_laws.proofs.AmongSettled.{rest_alone, alone_rest, rest_same}
-use Rattle.store_laws.proofs.Chained.{step_then}
+use Rattle.store_laws.proofs.AmongSettled.{rest_same}
 use Rattle.store_laws.proofs.Hits.{insert_hit, insert_must}
-use Rattle.store_laws.proofs.Misses.{quiet_itself}
 use Rattle.store_laws.proofs.PlainEdits.{plain_record}
 use Rattle.store_laws.proofs.RecordEdits.{insert_quiet}
-use Rattle.store_laws.proofs.TrailTells.{trail_records}
 use Rattle.txn_runner.specs.Calm.{IsCalm}
-use Rattle.txn_runner.specs.Settling.{IsSettled, IsSubmitted, HasDocuments, IsWorth, WorksOn, KeepsOthers, preparing_record}
-use Rattle.txn_runner.specs.declared.stage.Stage.TheVariants as stage
+use Rattle.txn_runner.specs.Settling.{IsSubmitted, preparing_record}
 use Rattle.txn_runner.specs.declared.waiting.Waiting.{Waiting}
 
 -- a record that isn't there

@@ -6,8 +6,6 @@ use Rattle.store_trait.specs.Edits.{nonce_limit}
 use Rattle.store_trait.specs.View.{doc_at, counter}
 use Rattle.store_trait.specs.declared.cell.DocCell.{DocCell}
 use Rattle.txn_runner.specs.Settling.{last_revno}
-use Rattle.txn_runner.specs.declared.error.StepError.{StepError}
-use Rattle.txn_runner.specs.declared.error.StepError.TheVariants as step
 use Rattle.txn_runner.specs.declared.stage.Stage.{Stage}
 use Rattle.txn_runner.specs.declared.stage.Stage.TheVariants as stage
 
@@ -28,12 +26,6 @@ pub record Uses (old new : Content) (had_nonces had_numbers left_nonces left_num
 pub record Suffices (c : Content) (transactions : ℕ) : Type 0 where
   pub nonces : counter c + transactions < nonce_limit
   pub numbers : (key : Key) → number_at c key + transactions ≤ last_revno
-
--- neither a nonce nor a number was wanting
-abbrev pub IsUnspent : StepError → Type 0
-IsUnspent step.NoncesSpent = ⊥
-IsUnspent (step.RevnoSpent _) = ⊥
-IsUnspent _ = Unit {0}
 
 -- what a transaction may still use from a stage on
 abbrev pub nonces_left : Stage → ℕ

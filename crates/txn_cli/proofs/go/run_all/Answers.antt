@@ -1,4 +1,6 @@
 use Rattle.txn_cli.proofs.Batches.{batch_then}
+use Rattle.std.proofs.Common.{arith}
+use Rattle.txn_runner.proofs.Numbers.{uses_then, uses_within}
 use Rattle.txn_cli.proofs.go.run_all.Goals as goal
 
 pub returns-in-Ok-clause-works : goal.returns-in-Ok-clause-works
@@ -6,3 +8,9 @@ returns-in-Ok-clause-works g c = λ told. batch_then _ _ _ _ _ _ _ _ _ _ (c.subm
 
 pub returns-in-Err-clause-works : goal.returns-in-Err-clause-works
 returns-in-Err-clause-works g c = λ told. c.submit_all.ensures.works told c.args.order.now.items
+
+pub returns-in-Ok-clause-uses : goal.returns-in-Ok-clause-uses
+returns-in-Ok-clause-uses g c = λ told. uses_then (uses_within (c.submit_all.ensures.uses told) (omega arith) (omega arith)) (c.settle_all.ensures.uses told)
+
+pub returns-in-Err-clause-uses : goal.returns-in-Err-clause-uses
+returns-in-Err-clause-uses g c = λ told. uses_within (c.submit_all.ensures.uses told) (omega arith) (omega arith)

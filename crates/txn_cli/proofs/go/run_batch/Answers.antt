@@ -3,6 +3,7 @@ use Rattle.store_trait.specs.Meaning.{meaning}
 use Rattle.txn_cli.proofs.BatchRuns.{if_ok, batch_runs, batch_done}
 use Rattle.txn_cli.proofs.OnlyReading.{runs_only_read}
 use Rattle.store_laws.proofs.Resting.{meaning-rest}
+use Rattle.txn_cli.proofs.Spending.{run_unspent}
 use Rattle.txn_cli.proofs.go.run_batch.Goals as goal
 
 pub returns-in-Err-clause-runs : goal.returns-in-Err-clause-runs
@@ -26,3 +27,7 @@ returns-clause-done g c = λ told.
 
 pub returns-clause-grown : goal.returns-clause-grown
 returns-clause-grown g c = inr (record { base = c.in-Ok.base; order = c.run_all-lines.new.order.items; mark = c.calls-mark.result; turns = [] }, (rw (c.in-Ok-push.ensures.items, c.in_ok-reserve.ensures.items, c.from_vec.ensures, c.new.ensures) refl))
+
+pub returns-clause-enough : goal.returns-clause-enough
+returns-clause-enough g c = λ told suffices.
+    run_unspent c.run_all-lines.result _ _ _ _ suffices (c.in-Ok.ensures.reads told).same (c.run_all-lines.ensures.uses told) (c.run_all-lines.ensures.reason told)

@@ -3,6 +3,7 @@ use Rattle.txn_cli.specs.Batches.{IsSubmitting}
 use Rattle.txn_runner.specs.declared.waiting.Waiting.{Waiting}
 use Rattle.txn_cli.proofs.Batches.{at_item, none_left, submitting_begins, submitting_next, submitting_ends, batch_works}
 use Rattle.txn_runner.proofs.CallsMade.{call_after}
+use Rattle.txn_runner.proofs.Numbers.{uses_then}
 use Rattle.txn_cli.proofs.go.submit_all.Goals as goal
 
 pub loop-txn-init : goal.loop-txn-init
@@ -35,6 +36,12 @@ pub loop-txn-preserved : goal.loop-txn-preserved
 loop-txn-preserved g c = record {
   told = λ told.
       let h = subst (λ (l : List Waiting). IsSubmitting g.S.Store.content g.S.Store.place g.S.Store.calls c.args.store.now c.loop-txn.store c.args.batch.now l) (at_item _ _ _ c.txn-item.is c.loop-txn-test.true) (c.loop-txn.invariant.told told) in
-      submitting_next _ _ _ _ _ _ _ _ _ h (c.submit.ensures.works told) (c.submit.ensures.calm told) (c.in-Ok-true.ensures.stands told).1;
+      submitting_next _ _ _ _ _ _ _ _ _ h (c.submit.ensures.works told) (c.submit.ensures.uses told) (c.submit.ensures.calm told) (c.in-Ok-true.ensures.stands told).1;
   made = call_after _ _ _ _ _ _ _ _ _ _ c.loop-txn.invariant.made c.submit.ensures.call;
 }
+
+pub returns-in-Err-clause-uses : goal.returns-in-Err-clause-uses
+returns-in-Err-clause-uses g c = λ told. uses_then (c.loop-txn.invariant.told told).uses (c.submit.ensures.uses told)
+
+pub returns-clause-uses : goal.returns-clause-uses
+returns-clause-uses g c = λ told. (c.loop-txn.invariant.told told).uses
