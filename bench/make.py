@@ -1,15 +1,33 @@
 #!/usr/bin/env python3
-"""Makes a script for `txn run`: N documents and N transactions in batches of at most 10,000.
+"""Makes a script for `txn run`.
 
-    bench/make.py apart N    each transaction on a document of its own
-    bench/make.py one N      all transactions on one of the documents
+N documents and N transactions in batches of at most 10,000:
+
+    bench/make.py apart N       each transaction on a document of its own
+    bench/make.py one N         all transactions on one of the documents
+
+The same, each transaction on a document of its own, with an assertion before its update:
+
+    bench/make.py applied N     every assertion holds
+    bench/make.py mixed N       every other one fails, so that half of the transactions are aborted
+    bench/make.py aborted N     every assertion fails
 
 One document in a line of N bytes, and a `show`:
 
-    bench/make.py list N     a long list of numbers
-    bench/make.py text N     a long text
-    bench/make.py objects N  a list of small objects
-    bench/make.py names N    an object of many names
+    bench/make.py list N        a long list of numbers
+    bench/make.py text N        a long text
+    bench/make.py objects N     a list of small objects
+    bench/make.py names N       an object of many names
+
+One transaction of one operation in a line of N bytes, which is applied:
+
+    bench/make.py query N       a query of many names
+    bench/make.py update N      an update of many paths
+
+Operations that are read and not run, since a line is refused behind them (status 3):
+
+    bench/make.py operations N  one line of N operations, 16,000 bytes each (at most 1,000)
+    bench/make.py waiting N     N lines of one operation, 1,600 bytes each (at most 10,000), and a faulty one
 """
 
 import sys
@@ -21,18 +39,42 @@ def document(n):
     return '{"doc":["k",%d],"body":{"v":0}}' % n
 
 
-def transaction(n, key):
-    return '{"txn":"%024x","ops":[{"c":"k","d":%d,"u":{"$set":{"v":%d}}}]}' % (n + 1, key, n)
+def transaction(n, operations):
+    return '{"txn":"%024x","ops":[%s]}' % (n + 1, operations)
 
 
-def lines(form, count):
+def setting(key, n):
+    return '{"c":"k","d":%d,"u":{"$set":{"v":%d}}}' % (key, n)
+
+
+def asking(key, value):
+    """The body's `v` is 0, so that this holds for 0 alone."""
+    return '{"c":"k","d":%d,"a":{"v":%d},"u":{"$inc":{"v":1}}}' % (key, value)
+
+
+OPERATIONS = {
+    "apart": lambda n: setting(n, n),
+    "one": lambda n: setting(0, n),
+    "applied": lambda n: asking(n, 0),
+    "mixed": lambda n: asking(n, n % 2),
+    "aborted": lambda n: asking(n, 1),
+}
+
+
+def batches(form, count):
     for n in range(count):
         yield document(n)
     for n in range(count):
-        yield transaction(n, n if form == "apart" else 0)
+        yield transaction(n, OPERATIONS[form](n))
         if n % BATCH == BATCH - 1:
             yield '{"go":{}}'
     yield '{"go":{}}'
+
+
+def many_names(size, value):
+    """Fields with distinct names in no order, of at most `size` bytes."""
+    count = size // (14 + len(value))
+    return ",".join('"n%09d":%s' % (n * 7919 % 10**9, value) for n in range(count))
 
 
 def long_body(form, size):
@@ -51,8 +93,40 @@ def long_line(form, size):
     yield '{"show":true}'
 
 
-FORMS = {"apart": lines, "one": lines, "list": long_line, "text": long_line,
-         "objects": long_line, "names": long_line}
+def query_of(size):
+    """An assertion of at most `size` bytes that holds of small bodies: no field of these names is there."""
+    return '"a":{%s}' % many_names(size - 8, "null")
+
+
+def update_of(size):
+    return '"u":{"$set":{%s}}' % many_names(size - 16, "0")
+
+
+def long_operation(form, size):
+    part = query_of(size - 96) if form == "query" else update_of(size - 96)
+    yield document(0)
+    yield transaction(0, '{"c":"k","d":0,%s}' % part)
+    yield '{"go":{}}'
+
+
+def many_operations(form, count):
+    yield document(0)
+    operation = '{"c":"k","d":0,%s}' % query_of(16_000 - 24)
+    yield transaction(0, ",".join([operation] * count))
+
+
+def many_waiting(form, count):
+    yield document(0)
+    operation = '{"c":"k","d":0,%s}' % query_of(1_600 - 72)
+    for n in range(count):
+        yield transaction(n, operation)
+    yield transaction(count, "{}")
+
+
+FORMS = dict.fromkeys(OPERATIONS, batches)
+FORMS.update(dict.fromkeys(["list", "text", "objects", "names"], long_line))
+FORMS.update(dict.fromkeys(["query", "update"], long_operation))
+FORMS.update({"operations": many_operations, "waiting": many_waiting})
 
 
 def main():

@@ -15,10 +15,16 @@ HERE = os.path.dirname(os.path.abspath(__file__))
 PROGRAM = os.path.join(HERE, "..", "crates", "txn_cli", "out", "txn_cli")
 COUNTS = [1_000, 2_000, 4_000, 8_000, 16_000, 32_000, 64_000]
 BYTES = [2**20, 2**21, 2**22, 2**23, 2**24]
-FORMS = {"apart": COUNTS, "one": COUNTS, "list": BYTES, "text": BYTES, "objects": BYTES, "names": BYTES}
+SIZES = {
+    "apart": COUNTS, "one": COUNTS, "applied": COUNTS, "mixed": COUNTS, "aborted": COUNTS,
+    "list": BYTES, "text": BYTES, "objects": BYTES, "names": BYTES, "query": BYTES, "update": BYTES,
+    "operations": [125, 250, 500, 1_000], "waiting": [1_250, 2_500, 5_000, 10_000],
+}
+# The status that a form's script ends with, where it isn't 0.
+STATUSES = {"mixed": 1, "aborted": 1, "operations": 3, "waiting": 3}
 
 
-def measured(script):
+def measured(script, expected):
     """Seconds and peak memory, in megabytes, of one run."""
     start = time.perf_counter()
     pid = os.fork()
@@ -27,22 +33,23 @@ def measured(script):
             os.dup2(source.fileno(), 0)
             os.dup2(sink.fileno(), 1)
             os.execv(PROGRAM, [PROGRAM, "run"])
-    _, status, usage = os.wait4(pid, 0)
+    _, ended, usage = os.wait4(pid, 0)
     seconds = time.perf_counter() - start
-    if os.waitstatus_to_exitcode(status) != 0:
-        sys.exit("the program ended with status %d" % os.waitstatus_to_exitcode(status))
+    status = os.waitstatus_to_exitcode(ended)
+    if status != expected:
+        sys.exit("the program ended with status %d in place of %d" % (status, expected))
     return seconds, usage.ru_maxrss / 1024
 
 
 def main():
-    for form in sys.argv[1:] or FORMS:
+    for form in sys.argv[1:] or SIZES:
         print("| %s | seconds | MB |\n|---|---|---|" % form)
-        for size in FORMS[form]:
+        for size in SIZES[form]:
             with tempfile.NamedTemporaryFile("w", suffix=".jsonl") as script:
                 subprocess.run([sys.executable, os.path.join(HERE, "make.py"), form, str(size)],
                                stdout=script, check=True)
                 script.flush()
-                seconds, megabytes = measured(script.name)
+                seconds, megabytes = measured(script.name, STATUSES.get(form, 0))
             print("| %d | %.2f | %.0f |" % (size, seconds, megabytes), flush=True)
             if seconds > 60:
                 break
