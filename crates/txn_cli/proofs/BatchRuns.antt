@@ -1,5 +1,5 @@
 -- The Run of a batch: from the listing of its base to the end of its calls.
-use Rattle.std.proofs.Common.{◌≡◌, ℕ, Bool, List, [], ◌∷◌, ◌++◌, Result, Ok, Err, IfOk, IsTrue, sym, ap, ◌∙◌, subst, arith}
+use Rattle.std.proofs.Common.{◌≡◌, ℕ, Bool, List, [], ◌∷◌, ◌++◌, Result, Ok, Err, IfOk, IsTrue, sym, ap, ◌∙◌, subst, arith, length}
 use Rattle.txn_record.specs.Documents.{Docs}
 use Rattle.store_trait.specs.Calls.{CallsGoOn}
 use Rattle.store_trait.specs.Contents.{Content}
@@ -7,6 +7,7 @@ use Rattle.store_trait.specs.Meaning.{meaning}
 use Rattle.store_trait.specs.Soundness.{IsSound}
 use Rattle.txn_cli.specs.Batches.{MayRun, WorksOnBatch, IsDoneWith}
 use Rattle.txn_cli.specs.Play.{RanBatch, HasRunBatch}
+use Rattle.txn_runner.specs.Numbers.{Uses}
 use Rattle.txn_runner.specs.Running.{HasRun, OnlyReads}
 use Rattle.txn_cli.specs.Runs.{RunsGoOn}
 use Rattle.txn_cli.specs.declared.done.Run.{Run}
@@ -47,10 +48,10 @@ module _ {S : Type 0} (tells : Bool) (content : S → Content) (place : S → �
       subst (λ (rs : List Run). RunsGoOn (place now) rs (calls now)) (sym kept)
       (runs_add (place now) runs run (calls mid) (calls now) there mark (base ∙ ap meaning (sym still_there ∙ ap (place now) mark)) has)
 
-  pub batch_done : (before after : List Run) (lines : List ℕ) → after ≡ before ++ run ∷ [] → IsDoneWith (content now) waiting lines → HasRunBatch (content old) (content now) waiting before after lines
-  batch_done before after lines kept done = record {
+  pub batch_done : (before after : List Run) (lines : List ℕ) → after ≡ before ++ run ∷ [] → Uses (content mid) (content now) (length waiting) (length waiting) 0 0 → IsDoneWith (content now) waiting lines → HasRunBatch (content old) (content now) waiting before after lines
+  batch_done before after lines kept uses done = record {
     run = run;
     ran = subst (λ (c : Content). RanBatch c (content now) waiting run lines) reads.same
-        (ran_batch content place calls mid now waiting run lines may_mid (present mid) (present now) mark base works done has still_there);
+        (ran_batch content place calls mid now waiting run lines may_mid (present mid) (present now) mark base works uses done has still_there);
     kept = kept;
   }

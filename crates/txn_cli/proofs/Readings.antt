@@ -1,5 +1,5 @@
 -- How a call comes from line to line, with what it writes.
-use Rattle.std.proofs.Common.{◌≡◌, ◌≢◌, ℕ, ◌+◌, Bool, false, length, List, [], ◌++◌, Option, Some, None, Result, Ok, Err, IfErr, IsTrue, ◌⊎◌, ⊎_elim, inl, refl, sym, ap, ◌∙◌, subst}
+use Rattle.std.proofs.Common.{◌≡◌, ◌≢◌, ℕ, ◌+◌, Bool, false, List, [], ◌++◌, Option, Some, None, Result, Ok, Err, IfErr, IsTrue, ◌⊎◌, ⊎_elim, inl, refl, sym, ap, ◌∙◌, subst}
 use Rattle.std.specs.FinMap.{empty}
 use Rattle.std.proofs.lemmas.List.{append-nil, append_assoc}
 use Rattle.store_trait.specs.Contents.{Content}
@@ -8,7 +8,6 @@ use Rattle.txn_cli.specs.Batches.{MayRun}
 use Rattle.txn_io.specs.Lines.{first_line, after_line, line_cost}
 use Rattle.txn_cli.specs.Play.{Progress, opening, Plays, IsRefusedAt, RefusedAs, is_allowed}
 use Rattle.txn_cli.specs.Refusals.{IsOfLine, IsUnspent, not_built}
-use Rattle.txn_runner.specs.Numbers.{Suffices}
 use Rattle.txn_script.specs.Faults.{fault_text as script_text}
 use Rattle.txn_script.specs.declared.fault.ScriptFault.TheVariants.{NotBuilt}
 use Rattle.txn_script.specs.Statements.{line_in}
@@ -56,7 +55,7 @@ module _ {S : Type 0} (content : S → Content) (old new : Session S) (script : 
       still = λ i. record { content = same i; waiting = batch i; begun = begun i; runs = runs i; printed = [] }
 
 pub begins_stopped : (script : List ℕ) (start : Progress) (why : Fault) (runs : List Run) (sink_tells : Bool) (written : List ℕ) → start.printed ≡ [] → runs ≡ start.runs → IsUnspent why → HasStopped script start why runs sink_tells written written
-begins_stopped script start why runs sink_tells written none kept unspent = record { done = 0; last = start; plays = Plays.Opens; kept = inl kept; enough = λ suffices. unspent; writes = λ told other. sym (ap (λ (l : List ℕ). written ++ l) none ∙ append-nil written) }
+begins_stopped script start why runs sink_tells written none kept unspent = record { done = 0; last = start; plays = Plays.Opens; kept = inl kept; unspent = unspent; writes = λ told other. sym (ap (λ (l : List ℕ). written ++ l) none ∙ append-nil written) }
 
 -- the last line of a refusal was written, or another refusal came
 pub refuses_out : (script : List ℕ) (start : Progress) (why told : Fault) (runs : List Run) (sink_tells : Bool) (old_written written now : List ℕ) (rose : Type 0) → HasStopped script start why runs sink_tells old_written written
@@ -68,8 +67,8 @@ refuses_out script start why told runs sink_tells old_written written now rose h
   last = h.last;
   plays = h.plays;
   kept = h.kept;
-  enough = λ suffices. ⊎_elim
-      (λ same. subst IsUnspent (sym same) (h.enough suffices))
+  unspent = ⊎_elim
+      (λ same. subst IsUnspent (sym same) h.unspent)
       (⊎_elim (λ memory. subst IsUnspent (sym memory) tt) (λ output. subst IsUnspent (sym output.0) tt))
       kept;
   writes = λ tells other enough.
@@ -128,15 +127,15 @@ misread_line content session line number why f read is = ⊎_elim
 -- ---- from line to line
 
 module _ {S : Type 0} (content : S → Content) (script : List ℕ) (start : Progress) (n taken : ℕ) (input : List ℕ) (session : Session S) (sink_tells : Bool) (old_written written : List ℕ) where
-  pub stops : (why : Fault) (runs : List Run) (now : List ℕ) → HasCome content script start n taken input session sink_tells old_written written → GrowsByOne session.runs.items runs → (Suffices (content session.store) (length session.batch) → IsUnspent why) → (IsTrue sink_tells → why ≢ fault.Output → now ≡ written)
+  pub stops : (why : Fault) (runs : List Run) (now : List ℕ) → HasCome content script start n taken input session sink_tells old_written written → GrowsByOne session.runs.items runs → IsUnspent why → (IsTrue sink_tells → why ≢ fault.Output → now ≡ written)
       → HasStopped script start why runs sink_tells old_written now
-  stops why runs now h kept enough unwritten = record { done = n; last = at content session h.printed; plays = h.plays.plays; kept = kept; enough = enough; writes = λ told other. unwritten told other ∙ h.writes told }
+  stops why runs now h kept unspent unwritten = record { done = n; last = at content session h.printed; plays = h.plays.plays; kept = kept; unspent = unspent; writes = λ told other. unwritten told other ∙ h.writes told }
 
   -- the same, of how the batch that waits at the end is run
-  pub stops_at_end : (result : Result (Unit {0}) Fault) (runs : List Run) (now : List ℕ) → HasCome content script start n taken input session sink_tells old_written written → GrowsByOne session.runs.items runs → (Suffices (content session.store) (length session.batch) → IfErr result IsUnspent) → (IsTrue sink_tells → IfErr result (λ f. f ≢ fault.Output → now ≡ written))
+  pub stops_at_end : (result : Result (Unit {0}) Fault) (runs : List Run) (now : List ℕ) → HasCome content script start n taken input session sink_tells old_written written → GrowsByOne session.runs.items runs → IfErr result IsUnspent → (IsTrue sink_tells → IfErr result (λ f. f ≢ fault.Output → now ≡ written))
       → IfErr result (λ f. HasStopped script start f runs sink_tells old_written now)
-  stops_at_end (Ok x) runs now h kept enough unwritten = tt
-  stops_at_end (Err f) runs now h kept enough unwritten = stops f runs now h kept enough unwritten
+  stops_at_end (Ok x) runs now h kept unspent unwritten = tt
+  stops_at_end (Err f) runs now h kept unspent unwritten = stops f runs now h kept unspent unwritten
 
   pub plays_out : (next : Session S) (now : List ℕ) → HasCome content script start n taken input session sink_tells old_written written → first_line input ≡ None
       → HasRunRest content session next sink_tells written now → HasPlayed script start (content next.store) next.runs.items sink_tells old_written now

@@ -1,7 +1,25 @@
 -- Where nonces and numbers suffice, none is wanting.
-use Rattle.std.proofs.Common.{◌≡◌, ◌≢◌, ℕ, ◌+◌, ◌<◌, ◌≤◌, Bool, true, Option, Some, None, Result, Ok, Err, IfErr, IsTrue, IfSome, List, length, ◌⊎◌, inl, inr, ⊎_elim, refl, sym, ap, subst, unsigned_abs, arith}
+use Rattle.std.proofs.Common.{◌≡◌, ◌≢◌, ℕ, ◌++◌, [], ◌∷◌, cond, false, unwrap_or, ◌+◌, ◌<◌, ◌≤◌, Bool, true, Option, Some, None, Result, Ok, Err, IfErr, IsTrue, IfSome, List, length, ◌⊎◌, inl, inr, ⊎_elim, refl, sym, ap, subst, unsigned_abs, arith}
+use Rattle.std.specs.FinMap.{empty, get, get-empty, insert, get-insert}
+use Rattle.std.specs.Option.{option_and_then}
+use Rattle.std.specs.Ordering.{eq_by_cmp}
+use Rattle.std.proofs.lemmas.List.{length-append}
+use Rattle.doc_value.specs.declared.value.Value.{Value}
+use Rattle.txn_record.specs.declared.key.Key.{Key}
+use Rattle.store_trait.proofs.NameOrder.{name_cmp_total}
+use Rattle.store_trait.specs.Cells.{as_counter, as_doc}
 use Rattle.store_trait.specs.Contents.{Content}
-use Rattle.txn_runner.specs.Numbers.{Uses, Suffices, size_of}
+use Rattle.store_trait.specs.Names.{name_cmp}
+use Rattle.store_trait.specs.View.{counter, doc_at}
+use Rattle.store_trait.specs.declared.cell.Cell.{Cell}
+use Rattle.store_trait.specs.declared.name.Name.TheVariants as name
+use Rattle.txn_runner.specs.declared.waiting.Waiting.{Waiting}
+use Rattle.txn_script.specs.Statements.{line_in}
+use Rattle.txn_script.specs.declared.fault.ScriptFault.{ScriptFault}
+use Rattle.txn_script.specs.declared.statement.Statement.{Statement}
+use Rattle.txn_script.specs.declared.statement.Statement.TheVariants as statement
+use Rattle.txn_cli.specs.Play.{Progress, opening, placed_doc, RunsBatch, RunsWaiting, Performs, PlaysAs, Plays}
+use Rattle.txn_runner.specs.Numbers.{Uses, Suffices, size_of, number_at}
 use Rattle.txn_runner.specs.declared.error.StepError.{StepError}
 use Rattle.txn_runner.specs.declared.error.StepError.TheVariants as step
 use Rattle.txn_cli.specs.Refusals.{HasReason, IsUnspent}
@@ -32,3 +50,79 @@ unspent c d n (fault.Repeated id) s u last = tt
 pub run_unspent : {T : Type 0} (r : Result T Fault) (c listed d : Content) (n : ℕ) → Suffices c n → listed ≡ c → Uses listed d n n 0 0 → IfErr r (HasReason d) → IfErr r IsUnspent
 run_unspent (Ok x) c listed d n s same u reason = tt
 run_unspent (Err f) c listed d n s same u reason = unspent c d n f s (subst (λ (x : Content). Uses x d n n 0 0) same u) reason
+
+-- ---- a script has fewer transactions than there are nonces, or numbers for a document
+
+-- so many nonces and numbers of a document at most were used, or may still be
+record Bounds (p : Progress) (n : ℕ) : Type 0 where
+  nonces : counter p.content + length p.waiting ≤ n
+  numbers : (key : Key) → number_at p.content key + length p.waiting ≤ n
+
+bounds_more : (p : Progress) (n : ℕ) → Bounds p n → Bounds p (n + 1)
+bounds_more p n b = record { nonces = omega (arith, b.nonces); numbers = λ key. omega (arith, b.numbers key) }
+
+-- ---- a document is placed
+
+counter_placed : (c : Content) (key : Key) (body : Value) → counter (insert c (name.Doc key) (placed_doc body)) ≡ counter c
+unfolding counter
+counter_placed c key body = ap (λ (o : Option Cell). unwrap_or (option_and_then as_counter o) 0) (get-insert name_cmp_total c (name.Doc key) (placed_doc body) name.Nonce)
+
+number_placed : (c : Content) (key : Key) (body : Value) (other : Key) → number_at (insert c (name.Doc key) (placed_doc body)) other ≤ number_at c other
+unfolding doc_at
+number_placed c key body other =
+    subst (λ (o : Option Cell). size_of (option_and_then as_doc o) ≤ number_at c other) (sym (get-insert name_cmp_total c (name.Doc key) (placed_doc body) (name.Doc other))) (by (eq_by_cmp name_cmp (name.Doc other) (name.Doc key)))
+  where
+    by : (t : Bool) → size_of (option_and_then as_doc (cond t (Some (placed_doc body)) (get c (name.Doc other)))) ≤ size_of (option_and_then as_doc (get c (name.Doc other)))
+    by true = omega arith
+    by false = omega arith
+
+-- ---- what each statement uses
+
+ran : (p q : Progress) (n : ℕ) → Bounds p n → RunsBatch p q → Bounds q n
+ran p q n b r =
+    let u = r.ran.ran.uses in
+    subst (λ (w : List Waiting). Bounds (record q { waiting = w }) n) (sym r.none_waits)
+    (record { nonces = omega (arith, b.nonces, u.counter); numbers = λ key. omega (arith, b.numbers key, u.numbers key) })
+
+ran_waiting : (waiting : List Waiting) (p q : Progress) (n : ℕ) → Bounds p n → RunsWaiting waiting p q → Bounds q n
+ran_waiting [] p q n b same = subst (λ (x : Progress). Bounds x n) (sym same) b
+ran_waiting (txn ∷ waiting) p q n b runs = ran p q n b runs
+
+does : (s : Statement) (p q : Progress) (n : ℕ) → Bounds p n → Performs s p q → Bounds q (n + 1)
+does (statement.Doc key body) p q n b is = subst (λ (x : Progress). Bounds x (n + 1)) (sym is) (record {
+  nonces = omega (arith, b.nonces, counter_placed p.content key body);
+  numbers = λ other. omega (arith, b.numbers other, number_placed p.content key body other);
+})
+does (statement.Submit id ops info) p q n b is = subst (λ (x : Progress). Bounds x (n + 1)) (sym is) (record {
+  nonces = omega (arith, b.nonces, length-append p.waiting (record { id = id; ops = ops } ∷ []));
+  numbers = λ key. omega (arith, b.numbers key, length-append p.waiting (record { id = id; ops = ops } ∷ []));
+})
+does statement.Go p q n b runs = bounds_more q n (ran p q n b runs)
+does statement.Show p q n b shown =
+    let r = ran_waiting p.waiting p shown.0 n b shown.1 in
+    subst (λ (x : Progress). Bounds x (n + 1)) (sym shown.2) (record { nonces = omega (arith, r.nonces); numbers = λ key. omega (arith, r.numbers key) })
+
+plays_as : (r : Result (Option Statement) ScriptFault) (p q : Progress) (n : ℕ) → Bounds p n → PlaysAs r p q → Bounds q (n + 1)
+plays_as (Ok None) p q n b same = subst (λ (x : Progress). Bounds x (n + 1)) (sym same) (bounds_more p n b)
+plays_as (Ok (Some s)) p q n b d = does s p q n b d.performs
+plays_as (Err why) p q n b none = elim none [ ]
+
+counter_empty : counter empty ≡ 0
+unfolding counter
+counter_empty = ap (λ (o : Option Cell). unwrap_or (option_and_then as_counter o) 0) (get-empty name_cmp name.Nonce)
+
+number_empty : (key : Key) → number_at empty key ≡ 0
+unfolding doc_at
+number_empty key = ap (λ (o : Option Cell). size_of (option_and_then as_doc o)) (get-empty name_cmp (name.Doc key))
+
+begins : (c : Content) → c ≡ empty → Bounds (opening c) 0
+begins c none = subst (λ (x : Content). Bounds (opening x) 0) (sym none) (record { nonces = omega (arith, counter_empty); numbers = λ key. omega (arith, number_empty key) })
+
+bounded : (script : List ℕ) (c : Content) → c ≡ empty → (n : ℕ) (p : Progress) → Plays script (opening c) n p → Bounds p n
+bounded script c none _ _ Plays.Opens = begins c none
+bounded script c none _ _ (Plays.Then m line p q plays first did) = plays_as (line_in line) p q m (bounded script c none m p plays) did
+
+pub suffices_at : (script : List ℕ) (c : Content) → c ≡ empty → (n : ℕ) (p : Progress) → Plays script (opening c) n p → n ≤ 268435456 → Suffices p.content (length p.waiting)
+suffices_at script c none n p plays short =
+    let b = bounded script c none n p plays in
+    record { nonces = omega (arith, b.nonces, short); numbers = λ key. omega (arith, b.numbers key, short) }

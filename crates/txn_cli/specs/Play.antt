@@ -27,7 +27,7 @@ use Rattle.txn_script.specs.Faults.{fault_text as script_text}
 use Rattle.txn_script.specs.declared.fault.ScriptFault.{ScriptFault}
 use Rattle.txn_script.specs.declared.fault.ScriptFault.TheVariants.{NotBuilt}
 use Rattle.txn_runner.specs.Built.{is_built}
-use Rattle.txn_runner.specs.Numbers.{Suffices}
+use Rattle.txn_runner.specs.Numbers.{Uses}
 use Rattle.txn_runner.specs.declared.waiting.Waiting.{Waiting}
 
 -- How far a script has come: what the store holds, the transactions that wait, whether a statement
@@ -62,7 +62,8 @@ is_allowed p statement.Show = true
 
 -- A batch was run over the one content, and left the other. The Run's base is what the store meant, and
 -- the order is legal and leads to what the store means now. Each transaction of the batch is applied or
--- aborted and has its entry, and the order has no others; no other record was touched.
+-- aborted and has its entry, and the order has no others; no other record was touched. Each used at most
+-- one nonce, and one number of a document.
 pub record RanBatch (old new : Content) (waiting : List Waiting) (run : Run) (lines : List ℕ) : Type 0 where
   pub opens : IsSound old
   pub closes : IsSound new
@@ -72,6 +73,7 @@ pub record RanBatch (old new : Content) (waiting : List Waiting) (run : Run) (li
   pub stand : Every (StandsIn new run.order) waiting
   pub only : list_all (λ entry. waits waiting entry.id) run.order ≡ true
   pub others : (id : TxnId) → waits waiting id ≡ false → record_at new id ≡ record_at old id
+  pub uses : Uses old new (length waiting) (length waiting) 0 0
   pub text : lines ≡ batch_text new waiting
 
 -- a batch was run, and its Run is kept behind those before it
@@ -167,10 +169,6 @@ pub data Refuses (script : List ℕ) (opening : Progress) : Fault → Type 0 whe
 -- no line of a script is refused
 abbrev pub IsValid : List ℕ → Progress → Type 0
 IsValid script opening = (why : Fault) → Refuses script opening why → ⊥
-
--- wherever a script comes to, nonces and numbers suffice for what waits there
-abbrev pub HasEnough : List ℕ → Progress → Type 0
-HasEnough script opening = (n : ℕ) (p : Progress) → Plays script opening n p → Suffices p.content (length p.waiting)
 
 -- the words of the program: the one word `run`
 abbrev pub is_grammar : List (List ℕ) → Bool

@@ -1,4 +1,4 @@
-use Rattle.std.specs.Prelude.{◌≡◌, ◌≢◌, ◌≤◌, ◌++◌, ℕ, Bool, IsTrue, List, length, None}
+use Rattle.std.specs.Prelude.{◌≡◌, ◌≢◌, ◌≤◌, ◌++◌, ℕ, Bool, IsTrue, List, None}
 use Rattle.std.specs.FinMap.{empty}
 use Rattle.store_trait.specs.Calls.{CallsGoOn}
 use Rattle.store_trait.specs.Contents.{Content}
@@ -6,7 +6,6 @@ use Rattle.txn_io.specs.Lines.{LinesView}
 use Rattle.txn_cli.specs.Play.{Progress, opening, IsAt, IsPlayed, Plays, PlaysLine, RunsWaiting}
 use Rattle.txn_cli.specs.Refusals.{IsUnspent}
 use Rattle.txn_cli.specs.Runs.{GrowsByOne}
-use Rattle.txn_runner.specs.Numbers.{Suffices}
 use Rattle.txn_cli.specs.Sessions.{IsHeld, at}
 use Rattle.txn_cli.specs.declared.fault.Fault.{Fault}
 use Rattle.txn_cli.specs.declared.fault.Fault.TheVariants as fault
@@ -61,17 +60,17 @@ pub record HasStopped (script : List ℕ) (start : Progress) (why : Fault) (runs
   pub last : Progress
   pub plays : Plays script start done last
   pub kept : GrowsByOne last.runs runs
-  pub enough : Suffices last.content (length last.waiting) → IsUnspent why
+  pub unspent : IsUnspent why
   pub writes : IsTrue sink_tells → why ≢ fault.Output → written ≡ old_written ++ last.printed
 
 -- Some first lines of a script were done, and the call ended with a refusal: the Runs are theirs, and one
--- more where the next line was refused while its batch ran; no nonce or number was wanting where they
--- sufficed for what waited; what the lines print was written, and the line of the refusal. After a fault of the output, or for want of memory, less may be
+-- more where the next line was refused while its batch ran; no nonce or number was wanting; what the lines
+-- print was written, and the line of the refusal. After a fault of the output, or for want of memory, less may be
 -- written.
 pub record HasRefused (script : List ℕ) (start : Progress) (why : Fault) (runs : List Run) (sink_tells : Bool) (old_written written : List ℕ) : Type 0 where
   pub done : ℕ
   pub last : Progress
   pub plays : Plays script start done last
   pub kept : GrowsByOne last.runs runs
-  pub enough : Suffices last.content (length last.waiting) → IsUnspent why
+  pub unspent : IsUnspent why
   pub writes : IsTrue sink_tells → why ≢ fault.Output → why ≢ fault.OutOfMemory → written ≡ old_written ++ (last.printed ++ fault_text why)

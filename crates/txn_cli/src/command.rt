@@ -7,7 +7,7 @@ ghost use Rattle.store_trait.specs.Calls.{CallsGoOn, Rose};
 ghost use Rattle.store_trait.specs.Contents.{Content};
 ghost use Rattle.txn_cli.specs.Faulting.{status_of, fault_of_line};
 ghost use Rattle.txn_cli.specs.Outcomes.{has_aborted, is_aborted};
-ghost use Rattle.txn_cli.specs.Play.{opening, Refuses, IsRefusedAt, IsValid, HasEnough, is_grammar};
+ghost use Rattle.txn_cli.specs.Play.{opening, Refuses, IsRefusedAt, IsValid, is_grammar};
 ghost use Rattle.txn_cli.specs.Reading.{HasDoneLine, HasRunRest, HasPlayed, HasStopped, HasRefused};
 ghost use Rattle.txn_cli.specs.Refusals.{HasReason, IsOfLine, IsOfStatement, IsOfReading, IsUnspent};
 ghost use Rattle.txn_cli.specs.Runs.{AreFaithful, GrowsByOne, RunsGoOn};
@@ -66,11 +66,11 @@ pub fn command<S: Store, I: Source, O: Sink>(
     // 9 comes only where nonces or revision numbers are used up, and 11 never over a store that tells.
     ensures reason { IsTrue S.tells → S.content store ≡ empty → IfSome result.fault (HasReason (S.content result.store)) }
 
-    // Where the words are in the grammar, no line is refused, nonces and numbers suffice and nothing failed,
-    // every line is done, unless memory is wanting.
+    // Where the words are in the grammar, no line is refused and nothing failed, every line is done, unless
+    // memory is wanting: a script has fewer lines than there are nonces, or numbers for a document.
     ensures complete { IsTrue I.tells → IsTrue S.tells → S.content store ≡ empty →
         IsTrue (is_grammar (map string_bytes words.now)) →
-        IsValid (I.rest input.old) (opening (S.content store)) → HasEnough (I.rest input.old) (opening (S.content store)) →
+        IsValid (I.rest input.old) (opening (S.content store)) →
         (Rose (S.faults store) (S.faults result.store) → ⊥) → (Rose (I.faults input.old) (I.faults input.new) → ⊥) →
         (Rose (O.faults output.old) (O.faults output.new) → ⊥) →
         (result.fault ≡ None) ⊎ (result.fault ≡ Some Fault.OutOfMemory) }

@@ -4,7 +4,7 @@ use Rattle.std.proofs.lemmas.Result.{err_from_is_err_and}
 use Rattle.txn_runner.proofs.CallsMade.{calls_then}
 use Rattle.txn_cli.proofs.Playing.{line_read, refuses_line, on_ok, unread}
 use Rattle.txn_cli.proofs.Readings.{begins_held, begins_come, begins_stopped, refused_alike, stops, stops_at_end, plays_out, comes_further}
-use Rattle.txn_cli.proofs.Spending.{of_store_unspent}
+use Rattle.txn_cli.proofs.Spending.{of_store_unspent, suffices_at}
 use Rattle.txn_cli.proofs.command.play.Goals as goal
 
 pub loop-done-init : goal.loop-done-init
@@ -31,7 +31,7 @@ returns-in_err-play_line-in-Ok-Some-clause-line g c = λ src told e.
 pub returns-in_err-play_line-in-Ok-Some-clause-stopped : goal.returns-in_err-play_line-in-Ok-Some-clause-stopped
 returns-in_err-play_line-in-Ok-Some-clause-stopped g c = λ src told e.
     let p = err_from_is_err_and c.from_residual-in_err-play_line-in-Ok-Some.result c.from_residual-in_err-play_line-in-Ok-Some.ensures.1 in
-    rw (p.1, p.2) (stops _ _ _ _ _ _ _ _ _ _ _ _ _ (c.loop-done.invariant.come src told e) c.in_err-play_line-in-Ok-Some.ensures.grown (c.in_err-play_line-in-Ok-Some.ensures.enough told (c.loop-done.invariant.was_empty told e)) (λ tells other. c.in_err-play_line-in-Ok-Some.ensures.unwritten tells other))
+    rw (p.1, p.2) (stops _ _ _ _ _ _ _ _ _ _ _ _ _ (c.loop-done.invariant.come src told e) c.in_err-play_line-in-Ok-Some.ensures.grown (c.in_err-play_line-in-Ok-Some.ensures.enough told (c.loop-done.invariant.was_empty told e) (suffices_at _ _ e _ _ (c.loop-done.invariant.come src told e).plays.plays (omega (arith, c.loop-done.invariant.counted, c.loop-done.invariant.within)))) (λ tells other. c.in_err-play_line-in-Ok-Some.ensures.unwritten tells other))
 
 pub returns-in_err-play_line-in-Ok-Some-clause-runs : goal.returns-in_err-play_line-in-Ok-Some-clause-runs
 returns-in_err-play_line-in-Ok-Some-clause-runs g c = λ told e. c.in_err-play_line-in-Ok-Some.ensures.runs told (c.loop-done.invariant.was_empty told e)
@@ -47,7 +47,7 @@ returns-in-Ok-None-clause-played g c = λ src told e.
     on_ok c.finish.result _ _ (c.finish.ensures.done told (c.loop-done.invariant.was_empty told e)) (λ runs. plays_out _ _ _ _ _ _ _ _ _ _ _ _ (c.loop-done.invariant.come src told e) none runs)
 
 pub returns-in-Ok-None-clause-stopped : goal.returns-in-Ok-None-clause-stopped
-returns-in-Ok-None-clause-stopped g c = λ src told e. stops_at_end _ _ _ _ _ _ _ _ _ _ _ _ _ (c.loop-done.invariant.come src told e) c.finish.ensures.grown (c.finish.ensures.enough told (c.loop-done.invariant.was_empty told e)) c.finish.ensures.unwritten
+returns-in-Ok-None-clause-stopped g c = λ src told e. stops_at_end _ _ _ _ _ _ _ _ _ _ _ _ _ (c.loop-done.invariant.come src told e) c.finish.ensures.grown (c.finish.ensures.enough told (c.loop-done.invariant.was_empty told e) (suffices_at _ _ e _ _ (c.loop-done.invariant.come src told e).plays.plays (omega (arith, c.loop-done.invariant.counted, c.loop-done.invariant.within)))) c.finish.ensures.unwritten
 
 pub returns-in-Ok-None-clause-runs : goal.returns-in-Ok-None-clause-runs
 returns-in-Ok-None-clause-runs g c = λ told e. c.finish.ensures.runs told (c.loop-done.invariant.was_empty told e)
@@ -56,7 +56,7 @@ pub returns-in-Ok-None-clause-reason : goal.returns-in-Ok-None-clause-reason
 returns-in-Ok-None-clause-reason g c = λ told e. c.finish.ensures.reason told (c.loop-done.invariant.was_empty told e)
 
 pub returns-in-Err-clause-stopped : goal.returns-in-Err-clause-stopped
-returns-in-Err-clause-stopped g c = λ src told e. stops _ _ _ _ _ _ _ _ _ _ _ _ _ (c.loop-done.invariant.come src told e) (inl refl) (λ suffices. c.line_fault.ensures.unspent) (λ tells other. refl)
+returns-in-Err-clause-stopped g c = λ src told e. stops _ _ _ _ _ _ _ _ _ _ _ _ _ (c.loop-done.invariant.come src told e) (inl refl) c.line_fault.ensures.unspent (λ tells other. refl)
 
 pub returns-in-Err-clause-runs : goal.returns-in-Err-clause-runs
 returns-in-Err-clause-runs g c = λ told e. (c.loop-done.invariant.held told e).runs
