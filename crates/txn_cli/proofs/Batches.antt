@@ -1,7 +1,5 @@
 -- A batch from its submission to its end.
-use Rattle.std.proofs.Common.{◌≡◌, ◌≢◌, ℕ, suc, arith, ◌+◌, ◌<◌, ◌≤◌, length, drop, Bool, true, false, not, ◌||◌, List, [], ◌∷◌, ◌++◌, Option, Some, None, is_some, Result, Ok, Err, OnOk, OnErr, IfOk, ◌⊎◌, ⊎_elim, inl, inr, refl, sym, ap, ◌∙◌, subst}
-use Rattle.std.specs.FinMap.{get}
-use Rattle.std.specs.Option.{option_and_then}
+use Rattle.std.proofs.Common.{◌≡◌, ◌≢◌, ℕ, suc, arith, ◌+◌, ◌<◌, ◌≤◌, length, drop, Bool, true, false, not, ◌||◌, List, [], ◌∷◌, ◌++◌, Option, Some, None, ⊎_elim, refl, sym, ap, ◌∙◌, subst}
 use Rattle.std.proofs.lemmas.Bool.{and_parts}
 use Rattle.std.proofs.lemmas.Slice.Eq.{bytes_eq-Decides}
 use Rattle.std.proofs.lemmas.List.{append_assoc, append-nil, drop_more}
@@ -15,26 +13,16 @@ use Rattle.txn_record.specs.declared.id.TxnId.{TxnId}
 use Rattle.txn_record.specs.declared.record.Record.{Record}
 use Rattle.txn_record.specs.declared.state.State.{State}
 use Rattle.txn_record.specs.declared.state.State.TheVariants as state
-use Rattle.store_trait.specs.Cells.{as_record}
 use Rattle.store_trait.specs.Contents.{Content}
-use Rattle.store_trait.specs.Edits.{hit, edited}
 use Rattle.store_trait.specs.Later.{may_follow}
 use Rattle.store_trait.specs.Meaning.{meaning}
 use Rattle.store_trait.specs.Names.{same_id}
 use Rattle.store_trait.specs.Soundness.{IsSound}
-use Rattle.store_trait.specs.Steps.{IsStep, IsQuiet}
+use Rattle.store_trait.specs.Steps.{IsStep}
 use Rattle.store_trait.specs.View.{look, record_at, chosen, settled, state_passes}
-use Rattle.store_trait.specs.declared.cell.Cell.{Cell}
-use Rattle.store_trait.specs.declared.cell.Cell.TheVariants as cell
-use Rattle.store_trait.specs.declared.edit.Edit.TheVariants as edit
-use Rattle.store_trait.specs.declared.name.Name.TheVariants as name
-use Rattle.store_laws.proofs.AfterEdits.{record_edit_queues}
-use Rattle.store_laws.proofs.AmongSettled.{rest_alone, alone_rest, rest_same}
+use Rattle.store_laws.proofs.AmongSettled.{rest_alone, alone_rest}
 use Rattle.store_laws.proofs.Chained.{step_then}
-use Rattle.store_laws.proofs.Hits.{insert_hit, insert_must}
 use Rattle.store_laws.proofs.Misses.{quiet_itself}
-use Rattle.store_laws.proofs.PlainEdits.{plain_record}
-use Rattle.store_laws.proofs.RecordEdits.{insert_quiet}
 use Rattle.store_laws.proofs.TrailTells.{trail_records}
 use Rattle.txn_runner.proofs.Beside.{docs_stay}
 use Rattle.txn_runner.proofs.Numbers.{uses_none, uses_then, uses_within}

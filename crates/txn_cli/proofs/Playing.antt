@@ -1,7 +1,5 @@
 -- How a script goes on by one line, ends, or is refused.
-use Rattle.std.proofs.Common.{◌≡◌, ◌≢◌, ℕ, ◌+◌, ◌≤◌, List, [], ◌∷◌, Option, Some, None, Result, Ok, Err, OnOk, Bool, ⊎_elim, inl, inr, refl, sym, ap, subst, ◌∙◌, add-one, arith}
-use Rattle.store_trait.specs.Calls.{CallsGoOn, OneCall, Rose}
-use Rattle.store_trait.specs.Contents.{Content}
+use Rattle.std.proofs.Common.{◌≡◌, ◌≢◌, ℕ, ◌+◌, List, [], ◌∷◌, Option, Some, None, Result, Ok, Err, OnOk, refl, sym, ap, subst, ◌∙◌, add-one}
 use Rattle.txn_cli.specs.Faulting.{fault_of_line}
 use Rattle.txn_io.specs.Lines.{first_line, after_line, line_cost, reading, unless_passed, limit_passed}
 use Rattle.txn_cli.specs.Play.{Progress, Plays, IsAt, IsPlayed, IsRefusedAt, PlaysLine, Refuses, RunsWaiting}

@@ -1,5 +1,5 @@
 -- Where nonces and numbers suffice, none is wanting.
-use Rattle.std.proofs.Common.{◌≡◌, ◌≢◌, ℕ, ◌++◌, [], ◌∷◌, cond, false, unwrap_or, ◌+◌, ◌<◌, ◌≤◌, Bool, true, Option, Some, None, Result, Ok, Err, IfErr, IsTrue, IfSome, List, length, ◌⊎◌, inl, inr, ⊎_elim, refl, sym, ap, subst, unsigned_abs, arith}
+use Rattle.std.proofs.Common.{◌≡◌, ℕ, [], ◌∷◌, cond, false, unwrap_or, ◌+◌, ◌≤◌, Bool, true, Option, Some, None, Result, Ok, Err, IfErr, List, length, ◌⊎◌, ⊎_elim, sym, ap, subst, arith}
 use Rattle.std.specs.FinMap.{empty, get, get-empty, insert, get-insert}
 use Rattle.std.specs.Option.{option_and_then}
 use Rattle.std.specs.Ordering.{eq_by_cmp}
@@ -20,7 +20,6 @@ use Rattle.txn_script.specs.declared.statement.Statement.{Statement}
 use Rattle.txn_script.specs.declared.statement.Statement.TheVariants as statement
 use Rattle.txn_cli.specs.Play.{Progress, opening, placed_doc, RunsBatch, RunsWaiting, Performs, PlaysAs, Plays}
 use Rattle.txn_runner.specs.Numbers.{Uses, Suffices, size_of, number_at}
-use Rattle.txn_runner.specs.declared.error.StepError.{StepError}
 use Rattle.txn_runner.specs.declared.error.StepError.TheVariants as step
 use Rattle.txn_cli.specs.Refusals.{HasReason, IsUnspent}
 use Rattle.txn_cli.specs.declared.fault.Fault.{Fault}

@@ -9,11 +9,8 @@ use Rattle.txn_record.specs.declared.record.Record.{Record}
 use Rattle.store_trait.specs.Calls.{CallsGoOn}
 use Rattle.store_trait.specs.Contents.{Content}
 use Rattle.store_trait.specs.Names.{same_id}
-use Rattle.store_trait.specs.Soundness.{IsSound}
 use Rattle.store_trait.specs.Steps.{IsStep}
-use Rattle.store_trait.specs.View.{look, record_at}
-use Rattle.store_laws.specs.Alone.{IsAtRest}
-use Rattle.store_laws.specs.Plain.{IsPlain}
+use Rattle.store_trait.specs.View.{record_at}
 use Rattle.store_laws.specs.Trail.{IsRecorded}
 use Rattle.txn_runner.specs.Built.{is_built}
 use Rattle.txn_runner.specs.Calm.{IsCalm}
