@@ -1,6 +1,6 @@
 #!/usr/bin/env python3
 """Times the built program on scripts that bench/make.py makes, at doubling sizes, and prints a table:
-size, seconds, peak memory. It stops doubling once a run takes a minute.
+size, seconds of the processor, peak memory. It stops doubling once a run takes a minute.
 
     bench/time.py [FORM..]      FORM is a form of bench/make.py; else all of them
 """
@@ -9,7 +9,6 @@ import os
 import subprocess
 import sys
 import tempfile
-import time
 
 HERE = os.path.dirname(os.path.abspath(__file__))
 PROGRAM = os.path.join(HERE, "..", "crates", "txn_cli", "out", "txn_cli")
@@ -25,8 +24,7 @@ STATUSES = {"mixed": 1, "aborted": 1, "operations": 3, "waiting": 3}
 
 
 def measured(script, expected):
-    """Seconds and peak memory, in megabytes, of one run."""
-    start = time.perf_counter()
+    """Seconds of the processor and peak memory, in megabytes, of one run."""
     pid = os.fork()
     if pid == 0:
         with open(script) as source, open(os.devnull, "w") as sink:
@@ -34,7 +32,7 @@ def measured(script, expected):
             os.dup2(sink.fileno(), 1)
             os.execv(PROGRAM, [PROGRAM, "run"])
     _, ended, usage = os.wait4(pid, 0)
-    seconds = time.perf_counter() - start
+    seconds = usage.ru_utime + usage.ru_stime
     status = os.waitstatus_to_exitcode(ended)
     if status != expected:
         sys.exit("the program ended with status %d in place of %d" % (status, expected))
