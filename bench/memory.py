@@ -3,8 +3,8 @@
 
     bench/memory.py SCRIPT [PROGRAM]
 
-Compiles a shim that makes the Nth allocation fail (needs `cc`), and runs the program for each N until no
-allocation is left to refuse.
+Compiles a shim that counts the allocations of a run and makes the Nth fail (needs `cc`), and runs the program
+for each N.
 """
 
 import os
@@ -16,9 +16,17 @@ SHIM = r"""
 #define _GNU_SOURCE
 #include <dlfcn.h>
 #include <errno.h>
+#include <fcntl.h>
+#include <stdio.h>
 #include <stdlib.h>
 
 static long made, refused = -1;
+
+__attribute__((destructor)) static void tell(void)
+{
+    const char *name = getenv("ALLOCATIONS_TOLD");
+    if (name) dprintf(open(name, O_WRONLY), "%ld", made);
+}
 
 static int is_refused(void)
 {
@@ -50,8 +58,10 @@ HERE = os.path.dirname(os.path.abspath(__file__))
 PROGRAM = os.path.join(HERE, "..", "crates", "txn_cli", "out", "txn_cli")
 
 
-def run(program, script, shim, number):
+def run(program, script, shim, number, told=""):
     environment = dict(os.environ, LD_PRELOAD=shim, REFUSED_ALLOCATION=str(number))
+    if told:
+        environment["ALLOCATIONS_TOLD"] = told
     with open(script, "rb") as text:
         ended = subprocess.run([program, "run"], stdin=text, capture_output=True, env=environment)
     return ended.returncode, ended.stdout
@@ -60,22 +70,26 @@ def run(program, script, shim, number):
 def main():
     script = sys.argv[1]
     program = sys.argv[2] if len(sys.argv) > 2 else PROGRAM
+    refused = 0
     with tempfile.TemporaryDirectory() as folder:
         source, shim = os.path.join(folder, "shim.c"), os.path.join(folder, "shim.so")
+        told = os.path.join(folder, "told")
         with open(source, "w") as text:
             text.write(SHIM)
+        open(told, "w").close()
         subprocess.run(["cc", "-O1", "-shared", "-fPIC", "-o", shim, source, "-ldl"], check=True)
-        ordinary = run(program, script, shim, 0)
-        number = 0
-        while True:
-            number += 1
+        ordinary = run(program, script, shim, 0, told)
+        with open(told) as text:
+            allocations = int(text.read())
+        for number in range(1, allocations + 1):
             status, written = run(program, script, shim, number)
             if (status, written) == ordinary:
-                break
+                continue
             first = written.removesuffix(b"out of memory\n")
             if status != 8 or not ordinary[1].startswith(first):
                 sys.exit(f"allocation {number} refused: status {status}, output {written!r}")
-    print(f"{script}: {number - 1} allocations refused in turn, each time status 8")
+            refused += 1
+    print(f"{script}: {allocations} allocations refused in turn, {refused} times status 8, else nothing changed")
 
 
 if __name__ == "__main__":
