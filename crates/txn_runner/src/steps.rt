@@ -107,6 +107,7 @@ pub fn queue<S: Store>(
     ensures works { IsTrue S.tells → (order : List LogEntry) →
         WorksOn S.content S.place S.calls store.old store.new order order txn.now.id }
     ensures comes { IsTrue S.tells → ComesToStage (S.content store.new) txn.now result }
+    ensures drawn { IfOk result (λ next. next ≡ Stage.Prepare nonce) }
     ensures nearer { IfOk result (λ next. steps_left next ≡ 5) }
     ensures uses { IsTrue S.tells → UsesUpTo (S.content store.old) (S.content store.new) (Stage.Queue nonce) result }
     ensures suits { IfOk result (λ next. suits txn.now.ops next ≡ true) }
