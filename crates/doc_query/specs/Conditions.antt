@@ -14,7 +14,7 @@ use Rattle.doc_query.specs.declared.operator.Comparison.TheVariants.{Greater, Gr
 use Rattle.doc_query.specs.declared.operator.Operator.{Operator}
 use Rattle.doc_query.specs.declared.operator.Operator.TheVariants.{Equal, NotEqual, In, NotIn, Exists, Size, Compare, Not}
 use Rattle.doc_query.specs.Operators.{operator_named, are_operators}
-use Rattle.doc_query.specs.Sameness.{is_same}
+use Rattle.doc_value.specs.Same.{same}
 
 abbrev pub elements_of : Value-F Value → List Value
 elements_of (Value-F.List values) = values
@@ -31,7 +31,7 @@ is_null _ = false
 
 abbrev pub equals : Value → Option Value → Bool
 equals operand None = is_null (out-Value operand)
-equals operand (Some field) = is_same field operand || list_any (λ element. is_same element operand) (elements field)
+equals operand (Some field) = same field operand || list_any (λ element. same element operand) (elements field)
 
 abbrev pub equals_some : Value → Option Value → Bool
 equals_some operand field = list_any (λ member. equals member field) (elements operand)

@@ -1,4 +1,3 @@
-pub mod Sameness
 pub mod Operators
 pub mod Reading
 pub mod Conditions

@@ -5,7 +5,7 @@ ghost use Rattle.std.specs.Option.{option_copied};
 ghost use Rattle.doc_value.specs.Fields.{judged};
 ghost use Rattle.doc_value.specs.declared.value.Value.{out-Value};
 ghost use Rattle.doc_query.specs.Operators.{operator_named};
-ghost use Rattle.doc_query.specs.Sameness.{is_same};
+ghost use Rattle.doc_value.specs.Same.{same};
 ghost use Rattle.doc_query.specs.Conditions.{elements, equals, equals_some, exists, has_size, order_of, allows, compares, compares_some, passes, passes_all, passes_named, all_pass, beside_truth, is_operators, meets};
 
 use crate::operator::{Comparison, Operator, are_all_operators};
@@ -83,25 +83,19 @@ fn elements_of(value: &Value) -> &[Value]
     }
 }
 
-fn are_same(value: &Value, other: &Value) -> bool
-    ensures { result ≡ is_same value.now other.now }
-{
-    value.equals(other)
-}
-
 fn equals_field(operand: &Value, field: Option<&Value>) -> bool
     ensures { result ≡ equals operand.now (option_copied field.entry) }
 {
     match field {
         None => matches!(operand, Value::Null),
-        Some(field) => are_same(field, operand) || contains(elements_of(field), operand),
+        Some(field) => field.equals(operand) || contains(elements_of(field), operand),
     }
 }
 
 fn contains(values: &[Value], value: &Value) -> bool
-    ensures { result ≡ list_any (λ element. is_same element value.now) values.now }
+    ensures { result ≡ list_any (λ element. same element value.now) values.now }
 {
-    values.iter().any(|element| are_same(element, value))
+    values.iter().any(|element| element.equals(value))
 }
 
 /// Whether the field equals a member of the list that the operand is.

@@ -1,17 +1,11 @@
 //! Laws of the definitions, each the contract of a call that does nothing.
-ghost use Rattle.std.specs.Prelude.{◌≡◌, ◌↔◌, IsTrue, List, Option};
+ghost use Rattle.std.specs.Prelude.{◌≡◌, List, Option};
 ghost use Rattle.std.specs.List.{list_any, list_all};
 ghost use Rattle.doc_value.specs.declared.value.Named.{Named};
 ghost use Rattle.doc_value.specs.declared.value.Value.{Value, List as Items_of, Object};
 ghost use Rattle.doc_query.specs.Conditions.{passes_all, passes_named};
 ghost use Rattle.doc_query.specs.Meaning.{holds, holds_as, every, some, name_holds};
 ghost use Rattle.doc_query.specs.Operators.{operator_named};
-ghost use Rattle.doc_query.specs.Sameness.{is_same};
-
-/// The test for the same tree is equality.
-pub fn sameness_is_equality()
-    ensures { (value : Value) (other : Value) → IsTrue (is_same value other) ↔ (value ≡ other) }
-{}
 
 /// The truth of a query by that of what stands inside it.
 pub fn truth_by_cases()

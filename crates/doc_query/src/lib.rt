@@ -14,7 +14,7 @@ mod query;
 mod reading;
 
 pub use fault::QueryFault;
-pub use laws::{sameness_is_equality, truth_by_cases};
+pub use laws::truth_by_cases;
 pub use matching::matches;
 pub use query::Query;
 

@@ -11,7 +11,7 @@ ghost use Rattle.doc_query.specs.Meaning.{holds, holds_as, every, some, logic_ho
 use crate::condition::is_met;
 use crate::operator::{Logic, is_operator};
 use crate::query::Query;
-use doc_lookup::{get_in_order, is_ordered};
+use doc_value::{get_by_text, is_ordered};
 use doc_value::{Field, Text, Value};
 
 /// From so many names on it pays to learn first whether a body's names are in order.
@@ -91,7 +91,7 @@ fn named_holds(name: &Text, value: &Value, body: &Value, ordered: bool) -> bool
     if is_operator(name.as_bytes()) {
         joined_hold(name.as_bytes(), value, body, ordered)
     } else {
-        is_met(value, get_in_order(body, name.as_str(), ordered))
+        is_met(value, get_by_text(body, name.as_str(), ordered))
     }
 }
 

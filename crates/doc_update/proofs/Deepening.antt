@@ -11,7 +11,7 @@ use Rattle.doc_update.specs.Reading.{is_object}
 use Rattle.doc_update.proofs.Depths.{too_deep, deep_fields, deep-Object, deep-Object-first, deep-append, deep-one}
 use Rattle.doc_update.proofs.FieldLaws.{kept}
 use Rattle.doc_update.proofs.Locality.{Effect, by_steps, nothing_up, changed_fits}
-use Rattle.doc_lookup.proofs.NameOrder.{before, past}
+use Rattle.doc_value.proofs.NameOrder.{before, past}
 use Rattle.doc_update.proofs.PlacedLaws.{open-Object, placed-Object, placed-closed, placed-unfit, by_kind}
 use Rattle.doc_update.proofs.Facts.{inner, no_some, only}
 

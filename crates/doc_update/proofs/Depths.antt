@@ -10,7 +10,7 @@ use Rattle.doc_value.specs.Nesting.{nesting, deepest_field}
 use Rattle.doc_value.specs.Paths.{field_named}
 use Rattle.doc_update.specs.Places.{with_field, field_or_none}
 use Rattle.doc_update.proofs.FieldLaws.{kept}
-use Rattle.doc_lookup.proofs.NameOrder.{before, past}
+use Rattle.doc_value.proofs.NameOrder.{before, past}
 
 abbrev pub too_deep : ℕ → Option Value → Bool
 too_deep limit (Some value) = nat_lt limit (nesting value)

@@ -8,8 +8,8 @@ use Rattle.doc_value.specs.declared.value.Named.{Named}
 use Rattle.doc_value.specs.declared.value.Value.{Value}
 use Rattle.doc_value.specs.Paths.{field_named}
 use Rattle.doc_update.specs.Places.{with_field, field_or_none}
-use Rattle.doc_lookup.proofs.NameOrder.{before, past, before-itself, past-itself, before-not-past, past-not-before, by_order, bytes_eq-itself, bytes_eq-turned}
-use Rattle.doc_lookup.proofs.OrderedNames.{named-append}
+use Rattle.doc_value.proofs.NameOrder.{before, past, before-itself, past-itself, before-not-past, past-not-before, by_order, bytes_eq-itself, bytes_eq-turned}
+use Rattle.doc_value.proofs.OrderedNames.{named-append}
 
 -- the fields whose names pass
 abbrev pub kept : (List ℕ → Bool) → List (Named Value) → List (Named Value)

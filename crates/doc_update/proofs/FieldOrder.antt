@@ -4,7 +4,7 @@ use Rattle.std.specs.Str.{bytes_eq}
 use Rattle.doc_value.specs.declared.value.Named.{Named}
 use Rattle.doc_value.specs.declared.value.Value.{Value}
 use Rattle.doc_update.specs.Places.{with_field, field_or_none}
-use Rattle.doc_lookup.proofs.NameOrder.{before, past, past-before, before-trans, before-itself, past-itself, before-not-past, past-not-before, by_order}
+use Rattle.doc_value.proofs.NameOrder.{before, past, past-before, before-trans, before-itself, past-itself, before-not-past, past-not-before, by_order}
 use Rattle.doc_update.proofs.FieldLaws.{kept, kept-append, kept-kept, kept-same, kept-none, kept-one}
 
 -- ---- tests of names, joined

@@ -2,7 +2,7 @@
 use Rattle.std.proofs.Common.{◌≡◌, true, List, ℕ, Option, Some, None, refl}
 use Rattle.doc_value.specs.declared.value.Value.{Value, out-Value}
 use Rattle.doc_value.specs.Paths.{field_in}
-use Rattle.doc_lookup.proofs.OrderedNames.{field-ordered}
+use Rattle.doc_value.proofs.OrderedNames.{field-ordered}
 use Rattle.doc_update.specs.Fitting.{is_found_ordered}
 use Rattle.doc_update.specs.Places.{part_of}
 

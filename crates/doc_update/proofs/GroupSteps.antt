@@ -13,7 +13,7 @@ use Rattle.doc_update.specs.Puts.{placed_all}
 use Rattle.doc_update.specs.Updates.{after_change, after_changes}
 use Rattle.doc_update.specs.declared.put.Put.{Put}
 use Rattle.doc_update.proofs.Grouping.{puts_before, puts_before_part, below_head, group_is}
-use Rattle.doc_lookup.proofs.NameOrder.{before, past, past-itself, before-trans, before-differs, by_order, bytes_eq-turned, bytes_eq-itself, equal-name}
+use Rattle.doc_value.proofs.NameOrder.{before, past, past-itself, before-trans, before-differs, by_order, bytes_eq-turned, bytes_eq-itself, equal-name}
 use Rattle.doc_update.proofs.PlacedLaws.{put_there}
 use Rattle.doc_update.proofs.Facts.{both, neither, no_some, untrue}
 

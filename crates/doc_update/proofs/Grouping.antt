@@ -14,7 +14,7 @@ use Rattle.doc_update.specs.declared.change.Change.{Change as Listed}
 use Rattle.doc_update.specs.declared.put.Put.{Put}
 use Rattle.doc_update.proofs.Commuting.{fused}
 use Rattle.doc_update.proofs.Locality.{Effect}
-use Rattle.doc_lookup.proofs.NameOrder.{before, equal-name, bytes_eq-itself}
+use Rattle.doc_value.proofs.NameOrder.{before, equal-name, bytes_eq-itself}
 use Rattle.doc_update.proofs.Reordering.{then_then}
 use Rattle.doc_update.proofs.Facts.{both, neither, untrue}
 

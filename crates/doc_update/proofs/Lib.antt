@@ -1,5 +1,4 @@
 pub mod Facts
-pub mod SameValues
 pub mod FieldLaws
 pub mod FieldOrder
 pub mod PlacedLaws

@@ -11,8 +11,8 @@ use Rattle.doc_update.specs.Places.{with_field, field_or_none}
 use Rattle.doc_update.specs.Puts.{with_fields, puts_rise, names_rise, precedes_put, precedes_field, count_below, without_own}
 use Rattle.doc_update.specs.declared.put.Put.{Put}
 use Rattle.doc_update.proofs.FieldLaws.{kept, kept-append}
-use Rattle.doc_lookup.proofs.NameOrder.{before, past, past-before, before-trans, past-itself, before-not-past, by_order, equal-name}
-use Rattle.doc_lookup.proofs.OrderedNames.{names_pass, pass_by}
+use Rattle.doc_value.proofs.NameOrder.{before, past, past-before, before-trans, past-itself, before-not-past, by_order, equal-name}
+use Rattle.doc_value.proofs.OrderedNames.{names_pass, pass_by}
 use Rattle.doc_update.proofs.Facts.{both}
 
 kept-pass : (test : List ℕ → Bool) (fields : List (Named Value)) → names_pass test (kept test fields) ≡ true

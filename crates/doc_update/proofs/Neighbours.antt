@@ -11,7 +11,7 @@ use Rattle.std.proofs.lemmas.Cmp.{nat_list_cmp_total}
 use Rattle.std.proofs.lemmas.Map.Text.{is_eq-slice_cmp}
 use Rattle.doc_update.specs.Changes.{Change}
 use Rattle.doc_update.specs.Conflicts.{paths_conflict, conflict, are_apart, neighbours_apart}
-use Rattle.doc_lookup.proofs.NameOrder.{bytes_eq-itself, equal-name}
+use Rattle.doc_value.proofs.NameOrder.{bytes_eq-itself, equal-name}
 
 abbrev pub path_cmp : List (List ℕ) → List (List ℕ) → Ordering
 path_cmp = slice_cmp (slice_cmp nat_cmp)

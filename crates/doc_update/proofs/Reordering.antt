@@ -11,7 +11,7 @@ use Rattle.doc_update.specs.Conflicts.{paths_conflict, conflict, are_apart}
 use Rattle.doc_update.specs.Effects.{effect}
 use Rattle.doc_update.specs.Updates.{after_change, after_changes}
 use Rattle.doc_update.proofs.Commuting.{commute}
-use Rattle.doc_lookup.proofs.NameOrder.{bytes_eq-turned}
+use Rattle.doc_value.proofs.NameOrder.{bytes_eq-turned}
 use Rattle.doc_update.proofs.Facts.{both, neither, untrue}
 
 pub paths_conflict-turned : (path other : List (List ℕ)) → paths_conflict path other ≡ paths_conflict other path

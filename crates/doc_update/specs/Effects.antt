@@ -8,7 +8,7 @@ use Rattle.std.specs.Ordering.{int_eq}
 use Rattle.doc_value.specs.Sound.{fits_64_bits}
 use Rattle.doc_value.specs.declared.value.Value.{Value, Int, List as Items_of, out-Value}
 use Rattle.doc_value.specs.declared.value.Value.TheOpen.{Value-F}
-use Rattle.doc_update.specs.Same.{same}
+use Rattle.doc_value.specs.Same.{same}
 use Rattle.doc_update.specs.declared.operator.Operator.{Operator}
 use Rattle.doc_update.specs.declared.operator.Operator.TheVariants.{Set, Unset, Inc, Push, AddToSet, Pull, Pop}
 

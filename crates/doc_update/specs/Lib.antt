@@ -1,5 +1,4 @@
 pub mod Operators
-pub mod Same
 pub mod Effects
 pub mod Places
 pub mod Changes

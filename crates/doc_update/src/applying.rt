@@ -8,8 +8,7 @@ use crate::change::{Change, changes_in};
 use crate::shape::fields_of;
 use crate::together::after_all;
 use crate::update::Update;
-use doc_lookup::is_ordered;
-use doc_value::{OutOfMemory, Text, Value};
+use doc_value::{OutOfMemory, Text, Value, is_ordered};
 use std::alloc::Global;
 use std::cmp::Ordering;
 

@@ -2,7 +2,6 @@
 ghost use Rattle.std.specs.Prelude.{◌≡◌, ◌++◌, [], ◌∷◌, IfOk, OnOk, filter, not, Some};
 ghost use Rattle.std.specs.Option.{option_copied};
 ghost use Rattle.doc_value.specs.declared.value.Value.{out-Value, List as Items_of};
-ghost use Rattle.doc_update.specs.Same.{same};
 ghost use Rattle.doc_update.specs.Effects.{effect, effect_on, effect_on_missing, increased, is_among, is_one, without_item, popped, pushed_onto, added_to, pulled_from, popped_from};
 
 use crate::operator::Operator;
@@ -168,17 +167,11 @@ pub(crate) fn is_among(item: &Value, items: &[Value]) -> bool
     ensures { result ≡ is_among item.now items.now }
 {
     for other in items {
-        if is_same(other, item) {
+        if other.equals(item) {
             return true;
         }
     }
     false
-}
-
-pub(crate) fn is_same(value: &Value, other: &Value) -> bool
-    ensures { result ≡ same value.now other.now }
-{
-    value.equals(other)
 }
 
 /// A list of copies of the items, with the operand's copy at its end.
@@ -212,7 +205,7 @@ fn copy_others(alloc: Global, operand: &Value, items: &[Value]) -> Result<Items<
 {
     let mut copies = Items::new(alloc);
     for item in items {
-        if !is_same(item, operand) {
+        if !item.equals(operand) {
             copies.push(item.copy(alloc)?)?;
         }
     }

@@ -14,12 +14,11 @@ ghost use Rattle.doc_update.specs.Places.{part_of};
 ghost use Rattle.doc_update.specs.Updates.{updated};
 
 use crate::applying::MAX_BODY_NESTING;
-use crate::effect::{is_among, is_same, popped};
+use crate::effect::{is_among, popped};
 use crate::operator::Operator;
 use crate::shape::{fields_of, is_object};
 use crate::update::Update;
-use doc_lookup::{field_of, is_ordered};
-use doc_value::{Field, Value};
+use doc_value::{Field, Value, field_of, is_ordered};
 
 /// Whether the update can be made to the body. It takes no memory.
 pub fn fits(update: &Update, body: &Value) -> bool
@@ -288,7 +287,7 @@ fn is_some_other_deeper(operand: &Value, items: &[Value], limit: u32) -> bool
     ensures { result ≡ nat_lt limit (deepest (map nesting (without_item operand.now items.now))) }
 {
     for item in items {
-        if !is_same(item, operand) && item.is_deeper_than(limit) {
+        if !item.equals(operand) && item.is_deeper_than(limit) {
             return true;
         }
     }

@@ -6,7 +6,6 @@ ghost use Rattle.doc_value.specs.declared.value.Value.{Value};
 ghost use Rattle.doc_update.specs.Changes.{Change, changes_of};
 ghost use Rattle.doc_update.specs.Conflicts.{are_apart};
 ghost use Rattle.doc_update.specs.Reading.{is_object, is_update};
-ghost use Rattle.doc_update.specs.Same.{same};
 ghost use Rattle.doc_update.specs.Updates.{after_changes, updated};
 
 /// Changes that don't conflict have the same effect in every order, and those of an update don't.
@@ -14,12 +13,6 @@ pub fn order_makes_no_difference()
     ensures apart { (update : Value) → is_update update ≡ true → are_apart (changes_of update) ≡ true }
     ensures alike { (changes others : List Change) (found : Option Value) → IsPermutation changes others → are_apart changes ≡ true
         → after_changes others found ≡ after_changes changes found }
-{}
-
-/// The test of two values is equality.
-pub fn same_is_equality()
-    ensures equal { (value other : Value) → same value other ≡ true → value ≡ other }
-    ensures itself { (value : Value) → same value value ≡ true }
 {}
 
 /// What an update makes of an object is an object, of at most 90 levels.

@@ -23,7 +23,7 @@ mod update;
 pub use applying::apply;
 pub use fault::UpdateFault;
 pub use fitting::fits;
-pub use laws::{order_makes_no_difference, same_is_equality, updates_keep_bodies};
+pub use laws::{order_makes_no_difference, updates_keep_bodies};
 pub use update::Update;
 
 #[cfg(test)]

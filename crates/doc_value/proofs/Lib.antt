@@ -10,3 +10,6 @@ pub mod DataOfValues
 pub mod RoundTrip
 pub mod BodyFields
 pub mod BodyAgain
+pub mod SameValues
+pub mod NameOrder
+pub mod OrderedNames

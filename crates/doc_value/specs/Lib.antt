@@ -11,3 +11,4 @@ pub mod Paths
 pub mod Order
 pub mod Sound
 pub mod Readable
+pub mod Same

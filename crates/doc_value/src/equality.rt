@@ -1,11 +1,13 @@
 ghost use Rattle.std.specs.Prelude.{◌≡◌, ◌↔◌, IsTrue};
+ghost use Rattle.doc_value.specs.Same.{same};
 
 use crate::value::{Field, Value};
 
 impl Value {
     /// Whether the two are the same tree. It takes no memory.
     pub fn equals(&self, other: &Value) -> bool
-        ensures { IsTrue result ↔ (self.now ≡ other.now) }
+        ensures equality { IsTrue result ↔ (self.now ≡ other.now) }
+        ensures test { result ≡ same self.now other.now }
     {
         are_equal(self, other)
     }

@@ -2,8 +2,9 @@
 //!
 //! What is read is exactly the value of the text, or the first fault by the format's order; what is
 //! printed is exactly the value's compact text, which reads back as the value (`reads_back`). A body, a
-//! path and what a path leads to are exactly those of the definitions in `specs/`. Copies are equal, and
-//! equality and order take no memory.
+//! path and what a path leads to are exactly those of the definitions in `specs/`; where the names of a
+//! value are known to be in order (`is_ordered`), fields are found by halving. Copies are equal, and
+//! looking up, equality and order take no memory.
 #![tactic(auto)]
 
 mod body;
@@ -14,6 +15,7 @@ mod laws;
 mod lookup;
 mod name;
 mod nesting;
+mod ordered;
 mod path;
 mod print;
 mod read;
@@ -23,8 +25,9 @@ mod value;
 pub use body::read_body;
 pub use doc_id::DocId;
 pub use fault::{BodyFault, PathFault, ValueFault};
-pub use laws::reads_back;
-pub use lookup::{get, get_by_text};
+pub use laws::{reads_back, same_is_equality};
+pub use lookup::{field_of, get, get_by_text};
+pub use ordered::is_ordered;
 pub use path::Path;
 pub use print::{print_value, push_text, push_value};
 pub use read::read_value;

@@ -1,7 +1,8 @@
 use crate::{
-    BodyFault, DocId, OutOfMemory, Path, PathFault, Text, Value, ValueFault, get, get_by_text,
-    print_value, push_text, push_value, read_body, read_value,
+    BodyFault, DocId, Named, OutOfMemory, Path, PathFault, Text, Value, ValueFault, field_of, get, get_by_text,
+    is_ordered, print_value, push_text, push_value, read_body, read_value,
 };
+use sqlite_items::Items;
 use std::alloc::Global;
 use std::test::Fail;
 
@@ -160,6 +161,41 @@ static PAIRS: [(&[u8], &[u8], bool); 8] = [
     (b"1", b"\"1\"", false),
     (b"null", b"false", false),
     (b"[]", b"{}", false),
+];
+
+static ORDERED: &str =
+    "{\"B\":0,\"a\":1,\"ab\":2,\"b\":{\"c\":{\"a\":3,\"d\":4},\"e\":[{\"f\":5}]},\"z\":6}";
+
+/// Paths, and the number that each leads to in `ORDERED`.
+static LEADS: [(&str, Option<i64>); 17] = [
+    ("B", Some(0)),
+    ("a", Some(1)),
+    ("ab", Some(2)),
+    ("b.c.a", Some(3)),
+    ("b.c.d", Some(4)),
+    ("z", Some(6)),
+    ("", None),
+    ("b", None),
+    ("b.c", None),
+    ("b.c.", None),
+    ("b.c.d.g", None),
+    ("b.d", None),
+    ("b.e.f", None),
+    ("b.e.0.f", None),
+    ("A", None),
+    ("aa", None),
+    ("zz", None),
+];
+
+/// The names of an object's fields, and whether they are in order.
+static NAMES: [(&str, bool); 7] = [
+    ("a", true),
+    ("a b c", true),
+    ("a ab b", true),
+    ("b a", false),
+    ("a c b", false),
+    ("ab a", false),
+    ("a a", false),
 ];
 
 /// The compact text of the value of a JSON text, or the name of the fault.
@@ -358,5 +394,58 @@ fn texts_are_pushed(rt: HostRuntime) -> Result<(), Fail> {
     push_text(&mut out, "a\"b")?;
     push_value(&mut out, &Value::Int(-7))?;
     assert_eq!(rt; out.as_slice(), b"id:\"a\\\"b\"-7".as_slice());
+    Ok(())
+}
+
+fn object(alloc: Global, names: &str) -> Result<Value, OutOfMemory> {
+    let mut fields = Items::new(alloc);
+    for name in names.split(' ') {
+        let name = Text::from_str(alloc, name)?;
+        let value = Value::Int(1);
+        fields.push(Named { name, value })?;
+    }
+    Ok(Value::Object(fields))
+}
+
+fn number(found: Option<&Value>) -> Option<i64> {
+    match found {
+        Some(Value::Int(number)) => Some(*number),
+        _ => None,
+    }
+}
+
+#[test]
+fn names_in_order_are_halved(rt: HostRuntime) -> Result<(), Fail> {
+    let body = read_value(rt.alloc(), ORDERED.as_bytes())?;
+    let ordered = is_ordered(&body);
+    assert!(rt; ordered);
+    for (path, expected) in &LEADS {
+        assert_eq!(rt;
+            number(get_by_text(&body, path, ordered)),
+            *expected,
+            "{path}"
+        );
+        assert_eq!(rt;
+            number(get_by_text(&body, path, false)),
+            *expected,
+            "{path}"
+        );
+    }
+    assert_eq!(rt; number(field_of(&body, b"ab", ordered)), Some(2));
+    Ok(())
+}
+
+#[test]
+fn order_is_told(rt: HostRuntime) -> Result<(), Fail> {
+    for (names, expected) in &NAMES {
+        let object = object(rt.alloc(), names)?;
+        let ordered = is_ordered(&object);
+        assert_eq!(rt; ordered, *expected, "{names}");
+        assert_eq!(rt;
+            number(field_of(&object, b"a", ordered)),
+            Some(1),
+            "{names}"
+        );
+    }
     Ok(())
 }

@@ -3,10 +3,10 @@ use Rattle.std.specs.Ordering.{is_lt, is_gt}
 use Rattle.std.proofs.lemmas.List.{get_or_default}
 use Rattle.doc_value.specs.declared.value.Named.{Named}
 use Rattle.doc_value.specs.declared.value.Value.{Value}
-use Rattle.doc_lookup.proofs.OrderedNames.{names_pass}
-use Rattle.doc_lookup.proofs.NameOrder.{before, past, compared, equal-order}
-use Rattle.doc_lookup.proofs.OrderedNames.{all_below, all_above, not_found, found_at}
-use Rattle.doc_lookup.proofs.lookup.find.Goals as goal
+use Rattle.doc_value.proofs.OrderedNames.{names_pass}
+use Rattle.doc_value.proofs.NameOrder.{before, past, compared, equal-order}
+use Rattle.doc_value.proofs.OrderedNames.{all_below, all_above, not_found, found_at}
+use Rattle.doc_value.proofs.lookup.find.Goals as goal
 
 pub loop-low-preserved-in-Less : goal.loop-low-preserved-in-Less
 loop-low-preserved-in-Less c =

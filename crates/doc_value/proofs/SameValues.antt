@@ -1,7 +1,7 @@
 -- The test of two values is equality.
 use Rattle.std.proofs.Common.{◌≡◌, List, [], ◌∷◌, Bool, true, false, map, refl, sym, ap, ap₂, ◌∙◌, subst}
 use Rattle.std.specs.Bool.{Decides}
-use Rattle.std.proofs.lemmas.Bool.{and_parts, true≢false}
+use Rattle.std.proofs.lemmas.Bool.{and_from, and_parts, true≢false}
 use Rattle.std.proofs.lemmas.Bool.Decides.{Decides-int_eq}
 use Rattle.std.proofs.lemmas.Slice.Eq.{bytes_eq-Decides}
 use Rattle.doc_value.specs.declared.value.Named.{Named}
@@ -10,8 +10,7 @@ use Rattle.doc_value.specs.declared.value.Value.TheOpen.{Value-F}
 use Rattle.doc_value.specs.declared.value.Value.TheViews.{roll-Value, roll-out-Value, out-roll-Value}
 use Rattle.doc_value.specs.declared.value.Value.TheFolds.{fold-roll-Value, ind-Value}
 use Rattle.doc_value.specs.Fields.{judged}
-use Rattle.doc_update.specs.Same.{same, same_step, same_layers, same_items, same_fields}
-use Rattle.doc_update.proofs.Facts.{both}
+use Rattle.doc_value.specs.Same.{same, same_step, same_layers, same_items, same_fields}
 
 abbrev pub IsDecided : Value → Type 0
 IsDecided v = ((w : Value) → same v w ≡ true → v ≡ w) × (same v v ≡ true)
@@ -33,7 +32,7 @@ items_equal (t ∷ ts) (w ∷ ws) h = let p = and_parts _ _ h in ap₂ (λ v vs.
 
 items_self : (ts : List Told) → same_items (map same (map plain ts)) (map plain ts) ≡ true
 items_self [] = refl
-items_self (t ∷ ts) = both _ _ t.1.1 (items_self ts)
+items_self (t ∷ ts) = and_from _ _ t.1.1 (items_self ts)
 
 fields_equal : (ts : List (Named Told)) (ws : List (Named Value)) → same_fields (map (judged same) (map (judged plain) ts)) ws ≡ true → map (judged plain) ts ≡ ws
 fields_equal [] [] h = refl
@@ -49,7 +48,7 @@ fields_equal (t ∷ ts) (w ∷ ws) h =
 
 fields_self : (ts : List (Named Told)) → same_fields (map (judged same) (map (judged plain) ts)) (map (judged plain) ts) ≡ true
 fields_self [] = refl
-fields_self (t ∷ ts) = both _ _ ((bytes_eq-Decides t.name t.name).1 refl) (both _ _ t.value.1.1 (fields_self ts))
+fields_self (t ∷ ts) = and_from _ _ ((bytes_eq-Decides t.name t.name).1 refl) (and_from _ _ t.value.1.1 (fields_self ts))
 
 level_equal : (y : Value-F Told) (z : Value-F Value) → same_layers (tests y) z ≡ true → map-Value Told Value plain y ≡ z
 level_equal Value-F.Null Value-F.Null h = refl

@@ -12,7 +12,7 @@ use Rattle.doc_value.specs.declared.value.Value.TheViews.{roll-out-Value}
 use Rattle.doc_value.specs.Fields.{judged}
 use Rattle.doc_value.specs.Order.{is_ordered, ordered_step, fields_ordered, precedes}
 use Rattle.doc_value.specs.Paths.{field_named, field_in}
-use Rattle.doc_lookup.proofs.NameOrder.{before, past, past-before, before-trans, before-differs, past-differs, bytes_eq-itself}
+use Rattle.doc_value.proofs.NameOrder.{before, past, past-before, before-trans, before-differs, past-differs, bytes_eq-itself}
 
 -- the names are in order, here and in every value
 abbrev pub in_order : List (Named Value) → Bool

@@ -2,7 +2,8 @@ ghost use Rattle.std.specs.Prelude.{◌≡◌, map};
 ghost use Rattle.doc_value.specs.Fields.{judged};
 ghost use Rattle.doc_value.specs.Order.{is_ordered, all_ordered, fields_ordered, precedes};
 
-use doc_value::{Field, Text, Value};
+use crate::text::Text;
+use crate::value::{Field, Value};
 use std::cmp::Ordering;
 
 /// Whether the names are in byte order, each once, at every depth: one pass over the value.
