@@ -2,7 +2,7 @@
 use Rattle.std.proofs.Common.{◌≡◌, ◌==◌, ℕ, Bool, true, false, ◌&&◌, ◌||◌, not, List, [], ◌∷◌, ◌++◌, length, nat_lt, map, Option, Some, None, is_ok, if◌then◌else◌, refl, sym, ap, ap₂, ◌∙◌, arith}
 use Rattle.std.specs.List.{list_any, list_all}
 use Rattle.std.specs.Option.{option_or}
-use Rattle.std.proofs.lemmas.Bool.{true≢false}
+use Rattle.std.proofs.lemmas.Bool.{true≢false, or_parts}
 use Rattle.std.proofs.lemmas.Bool.Decides.{nat_tests}
 use Rattle.std.proofs.lemmas.List.Folds.{list_any-append, list_all-append}
 use Rattle.std.proofs.lemmas.List.Splits.{length-slice_split}
@@ -17,7 +17,7 @@ use Rattle.doc_update.specs.Reading.{is_update, unless_fault, fault_in, fault_of
 use Rattle.doc_update.specs.declared.fault.UpdateFault.{UpdateFault}
 use Rattle.doc_update.specs.declared.operator.Operator.{Operator}
 use Rattle.doc_update.proofs.Reordering.{paths_conflict-turned}
-use Rattle.doc_update.proofs.Facts.{neither, only}
+use Rattle.std.proofs.Math.Bool.{or-false}
 
 either_test : (p q : Change → Bool) (cs : List Change) → list_any (λ c. p c || q c) cs ≡ (list_any p cs || list_any q cs)
 either_test p q [] = refl
@@ -39,7 +39,7 @@ clear_after before [] h = (refl, refl)
 clear_after before (change ∷ changes) h = by (list_any (conflict change) before) refl (λ rest. clear_after (before ++ change ∷ []) changes rest)
   where
     joined : (c : Change) → list_any (conflict c) (before ++ change ∷ []) ≡ (list_any (conflict c) before || conflict change c)
-    joined c = list_any-append (conflict c) before (change ∷ []) ∙ ap (λ b. list_any (conflict c) before || b) (only (conflict c change) ∙ paths_conflict-turned c.path change.path)
+    joined c = list_any-append (conflict c) before (change ∷ []) ∙ ap (λ b. list_any (conflict c) before || b) (or-false (conflict c change) ∙ paths_conflict-turned c.path change.path)
 
     by : (b : Bool) → list_any (conflict change) before ≡ b
         → (first_conflict_after (before ++ change ∷ []) changes ≡ None → (list_any (λ c. list_any (conflict c) (before ++ change ∷ [])) changes ≡ false) × (are_apart changes ≡ true))
@@ -50,7 +50,7 @@ clear_after before (change ∷ changes) h = by (list_any (conflict change) befor
         no_path e = cc
     by false is more =
         let rest = more (sym (ap (λ (b : Bool). if b then Some change.name else first_conflict_after (before ++ change ∷ []) changes) is) ∙ h) in
-        let split = neither _ _ (sym (same_test _ (λ c. list_any (conflict c) before || conflict change c) joined changes ∙ either_test (λ c. list_any (conflict c) before) (conflict change) changes) ∙ rest.0) in
+        let split = or_parts _ _ (sym (same_test _ (λ c. list_any (conflict c) before || conflict change c) joined changes ∙ either_test (λ c. list_any (conflict c) before) (conflict change) changes) ∙ rest.0) in
         (ap₂ (λ a b. a || b) is (split.0), ap₂ (λ a b. not a && b) (split.1) (rest.1))
 
 no_conflict : (found : Option (List ℕ)) → conflict_fault found ≡ None → found ≡ None

@@ -3,7 +3,7 @@ use Rattle.std.proofs.Common.{◌≡◌, ℕ, zero, suc, ◌<◌, ◌≤◌, Boo
 use Rattle.std.specs.List.{list_any, list_all}
 use Rattle.std.specs.List.Sorted.{IsPermutation, IsSortedByKey}
 use Rattle.std.specs.Ordering.{is_lt, is_gt, ordering_reverse}
-use Rattle.std.proofs.lemmas.Bool.{true≢false, and_parts}
+use Rattle.std.proofs.lemmas.Bool.{true≢false, and_parts, and_from, or_parts, not-true}
 use Rattle.std.proofs.lemmas.Cmp.{nat_list_cmp_total, lists_total}
 use Rattle.std.proofs.lemmas.List.{take_all, take-map}
 use Rattle.std.proofs.lemmas.List.Folds.{list_any-append}
@@ -16,7 +16,7 @@ use Rattle.doc_update.specs.Listed.{change_listed}
 use Rattle.doc_update.specs.declared.change.Change.{Change as Listed}
 use Rattle.doc_update.proofs.Neighbours.{path_cmp, upto, all_rise, apart-neighbours}
 use Rattle.doc_update.proofs.Reordering.{paths_conflict-turned, reordered}
-use Rattle.doc_update.proofs.Facts.{both, neither, only, untrue}
+use Rattle.std.proofs.Math.Bool.{or-false}
 
 -- ---- a sorted slice
 
@@ -33,12 +33,12 @@ FarSorted xs = (i j : ℕ) (d : Listed) → i ≤ j → j < length xs → is_lt 
 
 all_upto : (path : List (List ℕ)) (xs : List Listed) → ((j : ℕ) (d : Listed) → j < length xs → upto path (get_or xs j d).parts ≡ true) → list_all (λ change. upto path change.path) (map change_listed xs) ≡ true
 all_upto path [] h = refl
-all_upto path (x ∷ xs) h = both (upto path x.parts) (list_all (λ change. upto path change.path) (map change_listed xs)) (h zero x (omega arith)) (all_upto path xs (λ j d l. h (suc j) d (omega arith)))
+all_upto path (x ∷ xs) h = and_from (upto path x.parts) (list_all (λ change. upto path change.path) (map change_listed xs)) (h zero x (omega arith)) (all_upto path xs (λ j d l. h (suc j) d (omega arith)))
 
 far_rise : (xs : List Listed) → FarSorted xs → all_rise (map change_listed xs) ≡ true
 far_rise [] h = refl
 far_rise (x ∷ xs) h =
-    both (list_all (λ change. upto x.parts change.path) (map change_listed xs)) (all_rise (map change_listed xs))
+    and_from (list_all (λ change. upto x.parts change.path) (map change_listed xs)) (all_rise (map change_listed xs))
     (all_upto x.parts xs (λ j d l. in_order x.parts (get_or xs j d).parts (h zero (suc j) d (omega arith) (omega arith))))
     (far_rise xs (λ i j d le l. h (suc i) (suc j) d (omega arith) (omega arith)))
 
@@ -63,7 +63,7 @@ sorted_neighbours changes sorted moved up =
 apart-more : (before : List Change) (change : Change) → are_apart (before ++ change ∷ []) ≡ (not (list_any (conflict change) before) && are_apart before)
 apart-more [] change = refl
 apart-more (x ∷ xs) change =
-    ap₂ (λ a b. not a && b) (list_any-append (conflict x) xs (change ∷ []) ∙ ap (λ b. list_any (conflict x) xs || b) (only (conflict x change) ∙ paths_conflict-turned x.path change.path)) (apart-more xs change)
+    ap₂ (λ a b. not a && b) (list_any-append (conflict x) xs (change ∷ []) ∙ ap (λ b. list_any (conflict x) xs || b) (or-false (conflict x change) ∙ paths_conflict-turned x.path change.path)) (apart-more xs change)
     ∙ mixed (list_any (conflict x) xs) (conflict change x) (list_any (conflict change) xs) (are_apart xs)
   where
     mixed : (a b c d : Bool) → (not (a || b) && (not c && d)) ≡ (not (b || c) && (not a && d))
@@ -78,8 +78,8 @@ apart_front : (xs ys : List Change) → are_apart (xs ++ ys) ≡ true → are_ap
 apart_front [] ys h = refl
 apart_front (x ∷ xs) ys h =
     let parts = and_parts (not (list_any (conflict x) (xs ++ ys))) (are_apart (xs ++ ys)) h in
-    let clear = neither (list_any (conflict x) xs) (list_any (conflict x) ys) (sym (list_any-append (conflict x) xs ys) ∙ untrue (list_any (conflict x) (xs ++ ys)) (parts.0)) in
-    both (not (list_any (conflict x) xs)) (are_apart xs) (ap not (clear.0)) (apart_front xs ys (parts.1))
+    let clear = or_parts (list_any (conflict x) xs) (list_any (conflict x) ys) (sym (list_any-append (conflict x) xs ys) ∙ not-true (list_any (conflict x) (xs ++ ys)) (parts.0)) in
+    and_from (not (list_any (conflict x) xs)) (are_apart xs) (ap not (clear.0)) (apart_front xs ys (parts.1))
 
 grouped : (before : List Change) (change : Change) (rest : List Change) → (before ++ change ∷ []) ++ rest ≡ before ++ change ∷ rest
 grouped before change rest = simp append_assoc
@@ -103,7 +103,7 @@ first_at zero before (x ∷ xs) change within is clear bad =
 first_at (suc n) before (x ∷ xs) change within is clear bad =
     let whole = grouped before x (take n xs) in
     let first : are_apart (before ++ x ∷ []) ≡ true = apart_front (before ++ x ∷ []) (take n xs) (ap are_apart whole ∙ clear) in
-    let quiet = untrue (list_any (conflict x) before) ((and_parts (not (list_any (conflict x) before)) (are_apart before) (sym (apart-more before x) ∙ first)).0) in
+    let quiet = not-true (list_any (conflict x) before) ((and_parts (not (list_any (conflict x) before)) (are_apart before) (sym (apart-more before x) ∙ first)).0) in
     simp quiet (first_at n (before ++ x ∷ []) xs change (omega arith) is (ap are_apart whole ∙ clear) (ap are_apart (grouped before x (take (suc n) xs)) ∙ bad))
 
 -- changes that are apart have no conflict
@@ -112,7 +112,7 @@ none_first before [] h = refl
 none_first before (x ∷ xs) h =
     let whole = grouped before x xs in
     let first : are_apart (before ++ x ∷ []) ≡ true = apart_front (before ++ x ∷ []) xs (ap are_apart whole ∙ h) in
-    let quiet = untrue (list_any (conflict x) before) ((and_parts (not (list_any (conflict x) before)) (are_apart before) (sym (apart-more before x) ∙ first)).0) in
+    let quiet = not-true (list_any (conflict x) before) ((and_parts (not (list_any (conflict x) before)) (are_apart before) (sym (apart-more before x) ∙ first)).0) in
     simp quiet (none_first (before ++ x ∷ []) xs (ap are_apart whole ∙ h))
 
 -- ---- in a slice

@@ -7,14 +7,13 @@ use Rattle.doc_value.specs.declared.value.Value.{Value}
 use Rattle.doc_value.specs.Nesting.{nesting}
 use Rattle.doc_update.specs.Changes.{Change, changes_of, fields_of}
 use Rattle.doc_update.specs.Effects.{effect}
-use Rattle.doc_update.specs.Fitting.{is_open}
-use Rattle.doc_update.specs.Places.{changed}
+use Rattle.doc_update.specs.Places.{is_open, changed}
 use Rattle.doc_update.specs.Reading.{is_object}
 use Rattle.doc_update.specs.Updates.{after_change, after_changes, if_body, is_too_deep, body_after, updated}
 use Rattle.doc_update.proofs.Apart.{have_paths, has_path}
 use Rattle.doc_update.proofs.Commuting.{changed_there}
 use Rattle.doc_update.proofs.Facts.{no_some}
-use Rattle.doc_update.proofs.Locality.{Effect, by_steps}
+use Rattle.doc_update.proofs.Steps.{Effect, by_steps}
 use Rattle.doc_update.proofs.PlacedLaws.{put_there}
 
 -- where an object was found, an object is found afterwards

@@ -3,7 +3,7 @@ use Rattle.std.proofs.Common.{◌≡◌, ℕ, zero, suc, ◌<◌, Bool, true, fa
 use Rattle.std.proofs.Math.ListN.{set}
 use Rattle.std.specs.List.{list_any, swap}
 use Rattle.std.specs.List.Sorted.{IsPermutation}
-use Rattle.std.proofs.lemmas.Bool.{and_parts}
+use Rattle.std.proofs.lemmas.Bool.{and_parts, and_from, or_parts, not-true}
 use Rattle.std.proofs.lemmas.List.Sorted.{IsPermutation-keeps}
 use Rattle.doc_value.specs.declared.value.Value.{Value}
 use Rattle.doc_update.specs.Changes.{Change}
@@ -12,7 +12,6 @@ use Rattle.doc_update.specs.Effects.{effect}
 use Rattle.doc_update.specs.Updates.{after_change, after_changes}
 use Rattle.doc_update.proofs.Commuting.{commute}
 use Rattle.doc_value.proofs.NameOrder.{bytes_eq-turned}
-use Rattle.doc_update.proofs.Facts.{both, neither, untrue}
 
 pub paths_conflict-turned : (path other : List (List ℕ)) → paths_conflict path other ≡ paths_conflict other path
 paths_conflict-turned [] [] = refl
@@ -52,7 +51,7 @@ joined a b c first then = record {
 after_first : (change : Change) (a b : List Change) → IsReordered a b → IsReordered (change ∷ a) (change ∷ b)
 after_first change a b rest = record {
   tests = λ test. ap (λ t. test change || t) (rest.tests test);
-  apart = λ h. let parts = and_parts (not (list_any (conflict change) a)) (are_apart a) h in both (not (list_any (conflict change) b)) (are_apart b) (ap not (rest.tests (conflict change)) ∙ parts.0) (rest.apart (parts.1));
+  apart = λ h. let parts = and_parts (not (list_any (conflict change) a)) (are_apart a) h in and_from (not (list_any (conflict change) b)) (are_apart b) (ap not (rest.tests (conflict change)) ∙ parts.0) (rest.apart (parts.1));
   alike = λ h found. let parts = and_parts (not (list_any (conflict change) a)) (are_apart a) h in then_each (rest.alike (parts.1)) (after_change change found);
 }
   where
@@ -66,12 +65,12 @@ adjacent x y rest = record {
   apart = λ h.
       let outer = and_parts (not (conflict x y || list_any (conflict x) rest)) (are_apart (y ∷ rest)) h in
       let inner = and_parts (not (list_any (conflict y) rest)) (are_apart rest) (outer.1) in
-      let clear = neither (conflict x y) (list_any (conflict x) rest) (untrue _ (outer.0)) in
-      both (not (conflict y x || list_any (conflict y) rest)) (are_apart (x ∷ rest)) (none_true (conflict y x) (list_any (conflict y) rest) (paths_conflict-turned y.path x.path ∙ clear.0) (untrue _ (inner.0)))
-      (both (not (list_any (conflict x) rest)) (are_apart rest) (ap not (clear.1)) (inner.1));
+      let clear = or_parts (conflict x y) (list_any (conflict x) rest) (not-true _ (outer.0)) in
+      and_from (not (conflict y x || list_any (conflict y) rest)) (are_apart (x ∷ rest)) (none_true (conflict y x) (list_any (conflict y) rest) (paths_conflict-turned y.path x.path ∙ clear.0) (not-true _ (inner.0)))
+      (and_from (not (list_any (conflict x) rest)) (are_apart rest) (ap not (clear.1)) (inner.1));
   alike = λ h found.
       let outer = and_parts (not (conflict x y || list_any (conflict x) rest)) (are_apart (y ∷ rest)) h in
-      let clear = neither (conflict x y) (list_any (conflict x) rest) (untrue _ (outer.0)) in
+      let clear = or_parts (conflict x y) (list_any (conflict x) rest) (not-true _ (outer.0)) in
       then_then (after_change x) (after_changes rest) (after_change y found)
       ∙ ap (option_and_then (after_changes rest)) (sym (commute x.path y.path (effect x.operator x.operand) (effect y.operator y.operand) found (clear.0)))
       ∙ sym (then_then (after_change y) (after_changes rest) (after_change x found));

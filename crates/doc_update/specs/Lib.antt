@@ -6,6 +6,3 @@ pub mod Conflicts
 pub mod Reading
 pub mod Updates
 pub mod Listed
-pub mod Fitting
-pub mod Puts
-pub mod Groups

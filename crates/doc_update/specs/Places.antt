@@ -1,11 +1,12 @@
 -- A change at the end of a path, and what becomes of all that the path leads through.
-use Rattle.std.specs.Prelude.{ℕ, Bool, List, [], ◌∷◌, ◌++◌, filter, Option, Some, None, option_and_then}
+use Rattle.std.specs.Prelude.{ℕ, Bool, true, List, [], ◌∷◌, ◌++◌, filter, Option, Some, None, option_and_then}
 use Rattle.std.specs.Cmp.Lexicographic.{slice_cmp}
 use Rattle.std.specs.Ordering.{nat_cmp, is_lt, is_gt}
 use Rattle.doc_value.specs.declared.value.Named.{Named}
 use Rattle.doc_value.specs.declared.value.Value.{Value, Object, out-Value}
 use Rattle.doc_value.specs.declared.value.Value.TheOpen.{Value-F}
 use Rattle.doc_value.specs.Paths.{field_in}
+use Rattle.doc_update.specs.Reading.{is_object}
 
 abbrev pub is_below : List ℕ → Named Value → Bool
 is_below name field = is_lt (slice_cmp nat_cmp field.name name)
@@ -25,6 +26,11 @@ with_field name after fields = filter (is_below name) fields ++ field_or_none na
 abbrev pub part_of : List ℕ → Option Value → Option Value
 part_of part None = None
 part_of part (Some value) = field_in part (out-Value value)
+
+-- a field may be put there: in an object, and where nothing is
+abbrev pub is_open : Option Value → Bool
+is_open None = true
+is_open (Some value) = is_object value
 
 -- What has no fields takes none; nothing changes there where the field is missing afterwards.
 abbrev pub placed_in : List ℕ → Option Value → Value → Value-F Value → Option (Option Value)

@@ -13,14 +13,14 @@ use std::alloc::Global;
 
 /// One operator at one path: the path's parts, and the field that has its text and the operand.
 #[derive(Drop)]
-pub(crate) struct Change<'a> {
-    pub(crate) operator: Operator,
-    pub(crate) parts: Items<Text>,
-    pub(crate) field: &'a Field,
+pub struct Change<'a> {
+    pub operator: Operator,
+    pub parts: Items<Text>,
+    pub field: &'a Field,
 }
 
 /// The changes under all operators, in their order.
-pub(crate) fn changes_in<'a>(
+pub fn changes_in<'a>(
     alloc: Global,
     operators: &'a [Field],
 ) -> Result<Vec<Change<'a>>, OutOfMemory>

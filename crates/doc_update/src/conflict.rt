@@ -5,8 +5,8 @@ ghost use Rattle.doc_update.specs.Changes.{changes_in};
 ghost use Rattle.doc_update.specs.Conflicts.{paths_conflict, are_apart, first_conflict, neighbours_apart, apart_from_next};
 ghost use Rattle.doc_update.specs.Listed.{change_listed};
 
-use crate::applying::sort_by_path;
 use crate::change::{Change, changes_in};
+use crate::path_order::sort_by_path;
 use doc_value::{Field, OutOfMemory, Text};
 use std::alloc::Global;
 

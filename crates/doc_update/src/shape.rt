@@ -9,7 +9,7 @@ ghost use Rattle.doc_update.specs.Reading.{is_object, are_operators, some_empty}
 use doc_value::{Field, Value};
 
 /// The fields of an object, none of what has no fields.
-pub(crate) fn fields_of(value: &Value) -> &[Field]
+pub fn fields_of(value: &Value) -> &[Field]
     ensures { result.now ≡ fields_of value.now }
 {
     match value {
@@ -22,7 +22,7 @@ pub(crate) fn fields_of(value: &Value) -> &[Field]
     }
 }
 
-pub(crate) fn is_object(value: &Value) -> bool
+pub fn is_object(value: &Value) -> bool
     ensures { result ≡ is_object value.now }
 {
     matches!(value, Value::Object(_))

@@ -8,7 +8,8 @@ ghost use Rattle.store_trait.specs.Edits.{same_token, has_token, is_updatable, h
 use crate::cell::{Cell, DocCell};
 use crate::edit::Edit;
 use crate::name::Name;
-use doc_update::{Update, fits};
+use doc_apply::fits;
+use doc_update::Update;
 use txn_record::{Record, State, Token, TxnId};
 
 /// Whether an edit hits the cell that stands under a name, if one does.

@@ -3,8 +3,8 @@
 ghost use Rattle.std.specs.Prelude.{◌≡◌, ◌&&◌, Some};
 ghost use Rattle.txn_record.specs.Documents.{assertion_holds, change_fits};
 
+use doc_apply::fits;
 use doc_query::matches;
-use doc_update::fits;
 use doc_value::Value;
 use txn_record::{Assert, Change, Op};
 

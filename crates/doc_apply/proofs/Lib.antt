@@ -1,0 +1,14 @@
+pub mod Locality
+pub mod Depths
+pub mod Deepening
+pub mod FitsAlone
+pub mod ListDepths
+pub mod FitsBody
+pub mod Merging
+pub mod Placing
+pub mod Grouping
+pub mod GroupSteps
+pub mod GroupedSlices
+pub mod GroupTurn
+pub mod SortedChanges
+pub mod FoundOrdered

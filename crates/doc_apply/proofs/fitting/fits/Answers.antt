@@ -1,0 +1,11 @@
+use Rattle.std.proofs.Common.{sym, ap, ◌∙◌}
+use Rattle.std.specs.List.{list_all}
+use Rattle.doc_update.specs.Changes.{changes_in, fields_of}
+use Rattle.doc_apply.specs.Fitting.{change_is_good}
+use Rattle.doc_apply.proofs.FitsBody.{fits_shallow}
+use Rattle.doc_apply.proofs.fitting.fits.Goals as goal
+
+pub returns-then-not-is_deeper_than : goal.returns-then-not-is_deeper_than
+returns-then-not-is_deeper_than c =
+    c.operators_fit.ensures ∙ ap (λ operators. list_all (change_is_good c.args.body.now) (changes_in operators)) (c.fields_of.ensures ∙ ap fields_of c.source.ensures.value)
+    ∙ sym (fits_shallow c.args.update.now c.args.body.now (c.source.ensures.update) (sym c.is_deeper_than.ensures ∙ c.if-not-is_deeper_than.true))

@@ -1,6 +1,0 @@
-use Rattle.std.proofs.Common.{◌≡◌, drop, map, nat_lt}
-use Rattle.doc_value.specs.Nesting.{nesting, deepest}
-use Rattle.doc_update.proofs.fitting.is_some_deeper.Given as goal
-
-abbrev pub invariant-loop-item : goal.invariant-loop-item
-invariant-loop-item l = nat_lt l.limit (deepest (map nesting (drop l.item-index l.items))) ≡ nat_lt l.limit (deepest (map nesting l.items))

@@ -1,5 +1,0 @@
-use Rattle.std.proofs.Common.{length}
-use Rattle.doc_update.proofs.place.+changed.Given as goal
-
-abbrev pub decreases-changed : goal.decreases-changed
-decreases-changed l = length l.parts.now

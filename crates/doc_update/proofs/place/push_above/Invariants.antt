@@ -1,7 +1,0 @@
-use Rattle.std.proofs.Common.{◌≡◌, ◌++◌, drop}
-use Rattle.std.specs.Prelude.{filter}
-use Rattle.doc_update.specs.Places.{is_above}
-use Rattle.doc_update.proofs.place.push_above.Given as goal
-
-abbrev pub invariant-loop-field : goal.invariant-loop-field
-invariant-loop-field l = l.made ++ filter (is_above l.name) (drop l.field-index l.fields) ≡ l.initial.made ++ filter (is_above l.name) l.fields

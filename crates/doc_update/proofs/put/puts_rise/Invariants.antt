@@ -1,6 +1,0 @@
-use Rattle.std.proofs.Common.{◌≡◌, drop}
-use Rattle.doc_update.specs.Puts.{puts_rise}
-use Rattle.doc_update.proofs.put.puts_rise.Given as goal
-
-abbrev pub invariant-loop-i : goal.invariant-loop-i
-invariant-loop-i l = puts_rise (drop l.i l.puts) ≡ puts_rise l.puts
