@@ -1,5 +1,5 @@
 -- A change below a part, by its steps.
-use Rattle.std.proofs.Common.{◌≡◌, ℕ, List, [], ◌∷◌, Option, Some, None, option_and_then, refl}
+use Rattle.std.proofs.Common.{◌≡◌, ℕ, List, ◌∷◌, Option, Some, None, option_and_then, refl}
 use Rattle.doc_value.specs.declared.value.Value.{Value}
 use Rattle.doc_update.specs.Places.{part_of, placed, changed}
 

@@ -20,10 +20,7 @@ pub struct Change<'a> {
 }
 
 /// The changes under all operators, in their order.
-pub fn changes_in<'a>(
-    alloc: Global,
-    operators: &'a [Field],
-) -> Result<Vec<Change<'a>>, OutOfMemory>
+pub fn changes_in<'a>(alloc: Global, operators: &'a [Field]) -> Result<Vec<Change<'a>>, OutOfMemory>
     ensures { IfOk result (λ made. map change_listed made.items ≡ changes_in operators.now) }
 {
     let mut made = Vec::new(alloc);
