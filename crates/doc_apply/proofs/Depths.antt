@@ -1,7 +1,8 @@
 -- How deep fields nest, with one of them as it is afterwards.
 use Rattle.std.proofs.Common.{◌≡◌, ℕ, suc, Bool, true, false, ◌||◌, List, [], ◌∷◌, ◌++◌, max, map, nat_lt, Option, Some, None, if◌then◌else◌, refl, sym, ap, ap₂, ◌∙◌, arith, rules}
 use Rattle.std.specs.Str.{bytes_eq}
-use Rattle.std.proofs.lemmas.Bool.{true≢false}
+use Rattle.std.proofs.Math.Bool.{or_assoc, or-false}
+use Rattle.std.proofs.lemmas.Bool.{true≢false, or_parts}
 use Rattle.std.proofs.lemmas.Bool.Decides.{nat_tests}
 use Rattle.doc_value.specs.declared.value.Named.{Named}
 use Rattle.doc_value.specs.declared.value.Value.{Value, Object, the_lemmas}
@@ -44,14 +45,6 @@ deep-Object-first fields = ap (nat_lt 0) (nesting-Object fields) ∙ below_first
 deep-cons : (limit : ℕ) (field : Named Value) (fields : List (Named Value)) → deep_fields limit (field ∷ fields) ≡ (nat_lt limit (nesting field.value) || deep_fields limit fields)
 deep-cons limit field fields = below_max limit (nesting field.value) (deepest_field (map (judged nesting) fields))
 
-or_assoc : (a b c : Bool) → ((a || b) || c) ≡ (a || (b || c))
-or_assoc true b c = refl
-or_assoc false b c = refl
-
-or_parts : (a b : Bool) → (a || b) ≡ false → (a ≡ false) × (b ≡ false)
-or_parts true b h = absurd (true≢false h)
-or_parts false b h = (refl, h)
-
 pub deep-append : (limit : ℕ) (xs ys : List (Named Value)) → deep_fields limit (xs ++ ys) ≡ (deep_fields limit xs || deep_fields limit ys)
 deep-append limit [] ys = ap (λ b. b || deep_fields limit ys) (sym (below_none limit))
 deep-append limit (x ∷ xs) ys =
@@ -60,11 +53,7 @@ deep-append limit (x ∷ xs) ys =
 
 pub deep-one : (limit : ℕ) (name : List ℕ) (after : Option Value) → deep_fields limit (field_or_none name after) ≡ too_deep limit after
 deep-one limit name None = below_none limit
-deep-one limit name (Some value) = deep-cons limit (record { name = name; value = value }) [] ∙ ap (λ b. nat_lt limit (nesting value) || b) (below_none limit) ∙ itself (nat_lt limit (nesting value))
-  where
-    itself : (b : Bool) → (b || false) ≡ b
-    itself true = refl
-    itself false = refl
+deep-one limit name (Some value) = deep-cons limit (record { name = name; value = value }) [] ∙ ap (λ b. nat_lt limit (nesting value) || b) (below_none limit) ∙ or-false (nat_lt limit (nesting value))
 
 pub shallow-kept : (limit : ℕ) (test : List ℕ → Bool) (xs : List (Named Value)) → deep_fields limit xs ≡ false → deep_fields limit (kept test xs) ≡ false
 shallow-kept limit test [] h = h
@@ -81,11 +70,7 @@ pub deep-with : (limit : ℕ) (name : List ℕ) (after : Option Value) (fields :
 deep-with limit name after fields h =
     deep-append limit (kept (λ n. before n name) fields ++ field_or_none name after) (kept (λ n. past n name) fields)
     ∙ ap₂ (λ a b. a || b) (deep-append limit (kept (λ n. before n name) fields) (field_or_none name after) ∙ ap₂ (λ a b. a || b) (shallow-kept limit (λ n. before n name) fields h) (deep-one limit name after)) (shallow-kept limit (λ n. past n name) fields h)
-    ∙ itself (too_deep limit after)
-  where
-    itself : (b : Bool) → (b || false) ≡ b
-    itself true = refl
-    itself false = refl
+    ∙ or-false (too_deep limit after)
 
 pub shallow-named : (limit : ℕ) (name : List ℕ) (fields : List (Named Value)) → deep_fields limit fields ≡ false → too_deep limit (field_named name fields) ≡ false
 shallow-named limit name [] h = refl

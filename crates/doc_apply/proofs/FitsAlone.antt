@@ -2,6 +2,7 @@
 use Rattle.std.proofs.Common.{◌≡◌, ℕ, Bool, true, false, ◌&&◌, ◌||◌, not, List, [], ◌∷◌, length, nat_lt, Option, Some, None, option_and_then, is_some, if◌then◌else◌, refl, sym, ap, ap₂, ◌∙◌}
 use Rattle.std.specs.List.{list_any, list_all}
 use Rattle.std.proofs.lemmas.Bool.{true≢false, and_parts, or_parts, not-true}
+use Rattle.std.proofs.lemmas.Option.{same_Some}
 use Rattle.doc_value.specs.declared.value.Value.{Value}
 use Rattle.doc_value.specs.Nesting.{nesting}
 use Rattle.doc_update.specs.Changes.{Change, changes_of, fields_of}
@@ -111,10 +112,7 @@ in_turn false false b = refl
 
 pub all_deep : (changes : List Change) (limit : ℕ) (found g : Option Value) → are_apart changes ≡ true → after_changes changes found ≡ Some g
     → too_deep limit g ≡ (list_any (deep_found limit found) changes || too_deep limit (all_cut changes found))
-all_deep [] limit found g apart e = ap (too_deep limit) (sym (same_some found g e))
-  where
-    same_some : (a b : Option Value) → Some a ≡ Some b → a ≡ b
-    same_some a b e = cc
+all_deep [] limit found g apart e = ap (too_deep limit) (sym (same_Some found g e))
 all_deep (change ∷ changes) limit found g apart e = by (after_change change found) refl (λ g1. all_deep changes limit g1 g)
   where
     by : (o : Option (Option Value)) → after_change change found ≡ o
@@ -134,10 +132,7 @@ all_deep (change ∷ changes) limit found g apart e = by (after_change change fo
 -- ---- the body stays there
 
 pub stay_there : (changes : List Change) (found g : Option Value) → list_all has_path changes ≡ true → is_some found ≡ true → after_changes changes found ≡ Some g → is_some g ≡ true
-stay_there [] found g paths there e = ap is_some (sym (same_some found g e)) ∙ there
-  where
-    same_some : (a b : Option Value) → Some a ≡ Some b → a ≡ b
-    same_some a b e = cc
+stay_there [] found g paths there e = ap is_some (sym (same_Some found g e)) ∙ there
 stay_there (change ∷ changes) found g paths there e = by (after_change change found) refl (λ g1. stay_there changes g1 g)
   where
     kept : (path : List (List ℕ)) → nat_lt 0 (length path) ≡ true → (g1 : Option Value) → changed (effect_of change) path found ≡ Some g1 → is_some g1 ≡ true

@@ -2,7 +2,7 @@
 use Rattle.std.proofs.Common.{◌≡◌, ℕ, suc, ◌+◌, ◌<◌, Bool, true, false, not, List, [], ◌∷◌, ◌++◌, length, get_or, take, drop, Option, Some, None, if◌then◌else◌, refl, sym, ap, ap₂, ◌∙◌, append_assoc}
 use Rattle.std.specs.List.{list_all}
 use Rattle.std.specs.Str.{bytes_eq}
-use Rattle.std.proofs.lemmas.Bool.{true≢false, and_parts, and_from}
+use Rattle.std.proofs.lemmas.Bool.{true≢false, and_parts, and_from, not-true}
 use Rattle.std.proofs.lemmas.List.{at_drop_more}
 use Rattle.std.proofs.lemmas.List.Folds.{list_all-append}
 use Rattle.doc_value.specs.declared.value.Named.{Named}
@@ -28,11 +28,7 @@ kept-all test (f ∷ fs) h = let parts = and_parts (test f.name) (names_pass tes
 
 pub kept-no : (test : List ℕ → Bool) (fields : List (Named Value)) → names_pass (λ name. not (test name)) fields ≡ true → kept test fields ≡ []
 kept-no test [] h = refl
-kept-no test (f ∷ fs) h = let parts = and_parts (not (test f.name)) (names_pass (λ name. not (test name)) fs) h in simp (untrue (test f.name) (parts.0)) (kept-no test fs (parts.1))
-  where
-    untrue : (b : Bool) → not b ≡ true → b ≡ false
-    untrue true h = absurd (true≢false (sym h))
-    untrue false h = refl
+kept-no test (f ∷ fs) h = let parts = and_parts (not (test f.name)) (names_pass (λ name. not (test name)) fs) h in simp (not-true (test f.name) (parts.0)) (kept-no test fs (parts.1))
 
 -- ---- fields below a part stay before it
 

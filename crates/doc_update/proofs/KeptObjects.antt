@@ -3,6 +3,7 @@ use Rattle.std.proofs.Common.{◌≡◌, ℕ, ◌≤◌, Bool, true, false, ◌&
 use Rattle.std.specs.List.{list_all}
 use Rattle.std.proofs.lemmas.Bool.{true≢false, and_parts}
 use Rattle.std.proofs.lemmas.Bool.Decides.{nat_tests}
+use Rattle.std.proofs.lemmas.Option.{same_Some}
 use Rattle.doc_value.specs.declared.value.Value.{Value}
 use Rattle.doc_value.specs.Nesting.{nesting}
 use Rattle.doc_update.specs.Changes.{Change, changes_of, fields_of}
@@ -30,10 +31,7 @@ one_kept effect (part ∷ parts) found g h kept e =
     kept_parts g (changed_there effect part parts found g e (both.0)) (by_steps effect part parts found g e (λ after below put. (put_there found part after g put).2 ∙ both.1))
 
 all_kept : (changes : List Change) (found g : Option Value) → list_all has_path changes ≡ true → is_kept found ≡ true → after_changes changes found ≡ Some g → is_kept g ≡ true
-all_kept [] found g paths kept e = ap is_kept (sym (same found g e)) ∙ kept
-  where
-    same : (a b : Option Value) → Some a ≡ Some b → a ≡ b
-    same a b e = cc
+all_kept [] found g paths kept e = ap is_kept (sym (same_Some found g e)) ∙ kept
 all_kept (change ∷ changes) found g paths kept e = by (after_change change found) refl (λ f. all_kept changes f g)
   where
     by : (o : Option (Option Value)) → after_change change found ≡ o → ((f : Option Value) → list_all has_path changes ≡ true → is_kept f ≡ true → after_changes changes f ≡ Some g → is_kept g ≡ true) → is_kept g ≡ true

@@ -2,6 +2,7 @@
 use Rattle.std.proofs.Common.{◌≡◌, ℕ, Bool, true, false, ◌||◌, List, [], Option, Some, None, is_some, is_none, refl, sym, ap, ◌∙◌, subst, rules}
 use Rattle.std.specs.Str.{bytes_eq}
 use Rattle.std.proofs.lemmas.Bool.{true≢false}
+use Rattle.std.proofs.lemmas.Option.{same_Some}
 use Rattle.doc_value.specs.declared.value.Named.{Named}
 use Rattle.doc_value.specs.declared.value.Value.{Value, Object, out-Value, the_lemmas}
 use Rattle.doc_value.specs.declared.value.Value.TheOpen.{Value-F}
@@ -27,9 +28,6 @@ pub placed-Object : (part : List ℕ) (fields : List (Named Value)) (after : Opt
 placed-Object part fields after = ap (placed_in part after (Object fields)) (out-Object fields)
 
 -- ---- the kinds of what is found
-
-same_some : {A : Type 0} (a b : A) → Some a ≡ Some b → a ≡ b
-same_some a b e = cc
 
 closed-none : (part : List ℕ) (value : Value) (layer : Value-F Value) → is_object_layer layer ≡ false → placed_in part None value layer ≡ Some (Some value)
 closed-none part value (Value-F.Object fields) h = absurd (true≢false h)
@@ -75,10 +73,10 @@ PutThere found = (part : List ℕ) (after g : Option Value) → placed part foun
     → (part_of part g ≡ after) × ((other : List ℕ) → bytes_eq part other ≡ false → part_of other g ≡ part_of other found) × (is_open g ≡ is_open found)
 
 put_nothing : PutThere None
-put_nothing part None g e = let is : None ≡ g = same_some None g e in
+put_nothing part None g e = let is : None ≡ g = same_Some None g e in
     (ap (part_of part) (sym is), (λ other apart. ap (part_of other) (sym is)), ap is_open (sym is))
 put_nothing part (Some after) g e =
-    let is : Some (Object (with_field part (Some after) [])) ≡ g = same_some _ g e in (
+    let is : Some (Object (with_field part (Some after) [])) ≡ g = same_Some _ g e in (
       ap (part_of part) (sym is) ∙ part_of-Object part (with_field part (Some after) []) ∙ named-own part (Some after) [],
       (λ other apart. ap (part_of other) (sym is) ∙ part_of-Object other (with_field part (Some after) []) ∙ named-others other part (Some after) [] apart),
       ap is_open (sym is) ∙ open-Object (with_field part (Some after) []),
