@@ -3,11 +3,11 @@ ghost use Rattle.std.specs.List.{list_all};
 ghost use Rattle.txn_record.specs.Chain.{has_room};
 
 use super::*;
-use doc_value::{OutOfMemory, Text, Value, print_value, read_value};
+use doc_value::{OutOfMemory, Value, print_value, read_value};
 use sqlite_items::Items;
 use std::alloc::{AllocError, Global};
-use std::cmp::Ordering;
 use std::test::Fail;
+use txn_key::TxnId;
 
 const ID: &str = "00000000000000000000000a";
 
@@ -19,12 +19,6 @@ fn id(text: &str) -> Result<TxnId, Fail> {
     Ok(TxnId::read(text.as_bytes()).ok_or("no id")?)
 }
 
-fn key(alloc: Global, c: &str, d: &str) -> Result<Key, Fail> {
-    let c = Value::Text(Text::from_str(alloc, c)?);
-    let d = value(alloc, d)?;
-    Ok(Key::read(alloc, &c, &d)?.ok_or("no key")?)
-}
-
 fn read_ops(alloc: Global, json: &str) -> Result<Ops, Fail> {
     let value = value(alloc, json)?;
     Ok(Ops::read(alloc, &value).ok().ok_or("no operations")?)
@@ -33,88 +27,6 @@ fn read_ops(alloc: Global, json: &str) -> Result<Ops, Fail> {
 /// One operation, an update.
 fn ops(alloc: Global) -> Result<Ops, Fail> {
     read_ops(alloc, "[{\"c\":\"k\",\"d\":7,\"u\":{\"$set\":{\"v\":1}}}]")
-}
-
-/// The token's text again, in lower case; empty where there is none.
-fn token_again(alloc: Global, text: &str) -> Result<Vec<u8>, Fail> {
-    match Token::read(text.as_bytes()) {
-        Some(token) => Ok(token.print(alloc)?),
-        None => Ok(Vec::new(alloc)),
-    }
-}
-
-#[test]
-fn tokens(rt: HostRuntime) -> Result<(), Fail> {
-    let rows = [
-        [
-            "00000000000000000000000A_0000002F",
-            "00000000000000000000000a_0000002f",
-        ],
-        [
-            "00000000000000000000000a_ffffffff",
-            "00000000000000000000000a_ffffffff",
-        ],
-        ["00000000000000000000000a-00000000", ""],
-        ["00000000000000000000000a_0000000", ""],
-        ["0000000000000000000000a_000000000", ""],
-        ["00000000000000000000000g_00000000", ""],
-        ["00000000000000000000000a_0000000g", ""],
-        ["00000000000000000000000a", ""],
-    ];
-    for [text, again] in rows {
-        assert_eq!(rt;
-            token_again(rt.alloc(), text)?.as_slice(),
-            again.as_bytes(),
-            "{text}"
-        );
-    }
-    Ok(())
-}
-
-#[test]
-fn ids(rt: HostRuntime) -> Result<(), Fail> {
-    let token = Token::read(b"00000000000000000000000a_00010203").ok_or("no token")?;
-    assert_eq!(rt; token.nonce, 66051);
-    assert_eq!(rt; token.id.print(rt.alloc())?.as_slice(), ID.as_bytes());
-    assert!(rt; token.id.compare(&id("010000000000000000000000")?) == Ordering::Less);
-    assert!(rt; TxnId::read(b"00000000000000000000000").is_none());
-    Ok(())
-}
-
-fn stands_before(
-    alloc: Global,
-    c: &str,
-    d: &str,
-    other_c: &str,
-    other_d: &str,
-) -> Result<bool, Fail> {
-    let lesser = key(alloc, c, d)?;
-    let greater = key(alloc, other_c, other_d)?;
-    let copy = lesser.copy(alloc)?;
-    Ok(
-        lesser.compare(&greater) == Ordering::Less
-            && lesser.equals(&copy)
-            && !lesser.equals(&greater),
-    )
-}
-
-#[test]
-fn keys_in_order(rt: HostRuntime) -> Result<(), Fail> {
-    let rows = [
-        ["a", "\"z\"", "b", "\"a\""],
-        ["a", "9", "aa", "\"\""],
-        ["k", "\"z\"", "k", "-5"],
-        ["k", "\"B\"", "k", "\"a\""],
-        ["k", "\"a\"", "k", "\"aa\""],
-        ["k", "9", "k", "10"],
-    ];
-    for [c, d, other_c, other_d] in rows {
-        assert!(rt;
-            stands_before(rt.alloc(), c, d, other_c, other_d)?,
-            "{c} {d} {other_c} {other_d}"
-        );
-    }
-    Ok(())
 }
 
 /// Values, and what they print as where they are operations, or else their fault, with the number of the
@@ -657,14 +569,8 @@ fn states(rt: HostRuntime) -> Result<(), Fail> {
     Ok(())
 }
 
-fn only_document(alloc: Global, doc: Doc) -> Result<Docs, Fail> {
-    let mut docs = Docs::new(alloc);
-    docs.push(doc)?;
-    Ok(docs.copy(alloc)?)
-}
-
 #[test]
-fn entries_and_documents(rt: HostRuntime) -> Result<(), Fail> {
+fn entries(rt: HostRuntime) -> Result<(), Fail> {
     let entry = Entry {
         id: id(ID)?,
         ops: ops(rt.alloc())?,
@@ -673,10 +579,7 @@ fn entries_and_documents(rt: HostRuntime) -> Result<(), Fail> {
         at: 9,
     };
     let entry = entry.copy(rt.alloc())?;
-    let op = entry.ops.as_slice().first().ok_or("no operation")?;
-    let key = op.key.copy(rt.alloc())?;
-    let body = value(rt.alloc(), "{}")?;
-    let docs = only_document(rt.alloc(), Doc { key, body })?;
-    assert_eq!(rt; docs.as_slice().len(), 1);
+    assert_eq!(rt; entry.ops.as_slice().len(), 1);
+    assert_eq!(rt; entry.revnos.as_slice(), &[4]);
     Ok(())
 }
