@@ -1,4 +1,4 @@
-use Rattle.std.proofs.Common.{List, sym, ap, map, subst, ◌∙◌}
+use Rattle.std.proofs.Common.{sym, ap, map, subst, ◌∙◌}
 use Rattle.std.proofs.lemmas.List.{at_drop_all}
 use Rattle.std.proofs.lemmas.List.Sorted.{IsPermutation-map}
 use Rattle.std.specs.FinMap.{keys}
