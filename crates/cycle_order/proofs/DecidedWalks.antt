@@ -4,7 +4,7 @@ use Rattle.std.proofs.Common.{◌≡◌, ◌≢◌, ℕ, zero, suc, ◌<◌, ◌
 use Rattle.std.proofs.lemmas.Bool.{cases_eq, cases_Bool, false≢true}
 use Rattle.std.specs.declared.cmp.Ordering.{Ordering}
 use Rattle.std.specs.declared.cmp.Ordering.TheVariants.{Less, Equal, Greater}
-use Rattle.txn_record.specs.Keys.{id_cmp}
+use Rattle.txn_key.specs.Ids.{id_cmp}
 use Rattle.txn_record.specs.Walks.{Leads}
 use Rattle.txn_record.proofs.WalkLaws.{join, one_edge, leads_map}
 use Rattle.cycle_order.proofs.GraphFacts.{unsettled_within, some_ready}

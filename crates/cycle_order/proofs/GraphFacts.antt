@@ -6,9 +6,9 @@ use Rattle.std.proofs.lemmas.List.{get_or_past}
 use Rattle.std.specs.Ordering.{ordering_reverse}
 use Rattle.std.specs.declared.cmp.Ordering.{Ordering}
 use Rattle.std.specs.declared.cmp.Ordering.TheVariants.{Less, Equal, Greater}
-use Rattle.txn_record.specs.Keys.{id_cmp}
-use Rattle.txn_record.proofs.KeyOrder.{id_cmp_total, id_cmp-IsAntisymmetric}
-use Rattle.txn_record.specs.declared.id.TxnId.{TxnId}
+use Rattle.txn_key.specs.Ids.{id_cmp}
+use Rattle.txn_key.proofs.KeyOrder.{id_cmp_total, id_cmp-IsAntisymmetric}
+use Rattle.txn_key.specs.declared.id.TxnId.{TxnId}
 use Rattle.cycle_order.proofs.SomeFirst.{Among, some_first}
 use Rattle.cycle_order.specs.Graphs.{IsGraph, HasEdge, IsUnsettled, IsBelow, IsReady, id_at}
 use Rattle.cycle_order.specs.declared.graph.Graph.{Graph}

@@ -3,7 +3,7 @@ use Rattle.std.proofs.Common.{◌≡◌, ◌≢◌, ℕ, ◌+◌, ◌<◌, Bool,
 use Rattle.std.proofs.lemmas.List.{length_push, length-set, get_or_default}
 use Rattle.std.proofs.lemmas.List.Elements.{All-push, All-weaker}
 use Rattle.std.proofs.lemmas.List.Quantifiers.{all_pairs_push}
-use Rattle.txn_record.specs.declared.id.TxnId.{TxnId}
+use Rattle.txn_key.specs.declared.id.TxnId.{TxnId}
 use Rattle.cycle_order.specs.Graphs.{IsGraph, edge_of, with_vertex, with_settled, with_edges}
 use Rattle.cycle_order.specs.declared.graph.Edge.{Edge}
 use Rattle.cycle_order.specs.declared.graph.Graph.{Graph}

@@ -3,10 +3,10 @@ use Rattle.std.proofs.Common.{◌≡◌, ◌≢◌, ℕ, ◌<◌, ◌↔◌, tru
 use Rattle.std.proofs.lemmas.Bool.{cases_eq, false_from_ne_true, false≢true}
 use Rattle.std.proofs.lemmas.List.Elements.{All-contains}
 use Rattle.std.specs.declared.cmp.Ordering.TheVariants.{Less}
-use Rattle.txn_record.specs.Keys.{id_cmp}
+use Rattle.txn_key.specs.Ids.{id_cmp}
+use Rattle.txn_key.specs.declared.id.TxnId.{TxnId}
 use Rattle.txn_record.specs.Walks.{Leads}
 use Rattle.txn_record.proofs.WalkLaws.{leads_in}
-use Rattle.txn_record.specs.declared.id.TxnId.{TxnId}
 use Rattle.cycle_order.proofs.GraphFacts.{ids_differ, unsettled_within}
 use Rattle.cycle_order.proofs.MoreWalks.{leads_mapped}
 use Rattle.cycle_order.specs.ByIds.{Precedes, Settled, ReadyId, CleanId}

@@ -1,8 +1,8 @@
 -- A graph said of its transactions' ids, as the contents of a store speak of them.
 use Rattle.std.specs.Prelude.{◌≡◌, ℕ, ◌<◌, true, length}
 use Rattle.std.specs.declared.cmp.Ordering.TheVariants.{Less}
-use Rattle.txn_record.specs.Keys.{id_cmp}
-use Rattle.txn_record.specs.declared.id.TxnId.{TxnId}
+use Rattle.txn_key.specs.Ids.{id_cmp}
+use Rattle.txn_key.specs.declared.id.TxnId.{TxnId}
 use Rattle.cycle_order.specs.Graphs.{HasEdge, settled_at, id_at}
 use Rattle.cycle_order.specs.Readiness.{GoesFirst, AllBefore}
 use Rattle.cycle_order.specs.declared.graph.Graph.{Graph}

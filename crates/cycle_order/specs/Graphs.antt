@@ -1,9 +1,9 @@
 -- Graphs: their edges as a relation, and which of their vertices may go first.
 use Rattle.std.specs.Prelude.{◌≡◌, ◌≢◌, ℕ, ◌<◌, Bool, true, false, List, [], ◌∷◌, length, slice_index_or, slice_set, ◌++◌, All, AllPairs, Contains}
 use Rattle.std.specs.declared.cmp.Ordering.TheVariants.{Less}
-use Rattle.txn_record.specs.Keys.{id_cmp}
+use Rattle.txn_key.specs.Ids.{id_cmp}
+use Rattle.txn_key.specs.declared.id.TxnId.{TxnId}
 use Rattle.txn_record.specs.Walks.{Leads}
-use Rattle.txn_record.specs.declared.id.TxnId.{TxnId}
 use Rattle.cycle_order.specs.Readiness.{GoesFirst, AllBefore}
 use Rattle.cycle_order.specs.declared.graph.Edge.{Edge}
 use Rattle.cycle_order.specs.declared.graph.Graph.{Graph}

@@ -3,7 +3,7 @@ ghost use Rattle.std.specs.Prelude.{◌≡◌, IfOk};
 use doc_value::OutOfMemory;
 use sqlite_items::Items;
 use std::alloc::Global;
-use txn_record::TxnId;
+use txn_key::TxnId;
 
 /// The vertex at place `before` stands before the one at place `after`, which waits for it.
 #[derive(Clone, Copy, Debug, PartialEq, Eq)]

@@ -1,8 +1,8 @@
 //! Laws of graphs: of walks, and of readiness as a graph changes. The crates above cite them by these
 //! contracts.
 ghost use Rattle.std.specs.Prelude.{◌≡◌, ◌≢◌, ◌⊎◌, ◌↔◌, ℕ, ◌<◌, Bool, List, [], ◌∷◌, length, Contains};
+ghost use Rattle.txn_key.specs.declared.id.TxnId.{TxnId};
 ghost use Rattle.txn_record.specs.Walks.{Leads};
-ghost use Rattle.txn_record.specs.declared.id.TxnId.{TxnId};
 ghost use Rattle.cycle_order.specs.ByIds.{ReadyId, CleanId};
 ghost use Rattle.cycle_order.specs.Graphs.{IsGraph, HasEdge, Ancestor, IsUnsettled, IsReady, IsClean, edge_of, id_at, with_vertex, with_settled, with_edges};
 ghost use Rattle.cycle_order.specs.declared.graph.Edge.{Edge};

@@ -1,12 +1,12 @@
 ghost use Rattle.std.specs.Prelude.{◌≢◌, ℕ, ◌<◌, ◌≡◌, length, All, AllPairs, IfOk, IsTrue, slice_index_or};
-ghost use Rattle.txn_record.specs.declared.id.TxnId.{TxnId as TxnIdValue};
+ghost use Rattle.txn_key.specs.declared.id.TxnId.{TxnId as TxnIdValue};
 ghost use Rattle.cycle_order.specs.Graphs.{IsGraph};
 
 use super::*;
 use sqlite_items::Items;
 use std::alloc::Global;
 use std::test::Fail;
-use txn_record::TxnId;
+use txn_key::TxnId;
 
 /// The id whose last four bytes are a number.
 fn id(number: u32) -> TxnId {

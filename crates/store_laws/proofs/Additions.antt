@@ -1,8 +1,8 @@
 -- A token at the end of an owner queue.
 use Rattle.std.proofs.Common.{◌≡◌, ◌≢◌, ℕ, Some, List, inl, ⊎_elim, sym, ◌∙◌, ap, subst, if◌then◌else◌, arith}
-use Rattle.txn_record.specs.declared.id.TxnId.{TxnId}
-use Rattle.txn_record.specs.declared.id.Token.{Token}
-use Rattle.txn_record.specs.declared.key.Key.{Key}
+use Rattle.txn_key.specs.declared.id.TxnId.{TxnId}
+use Rattle.txn_key.specs.declared.id.Token.{Token}
+use Rattle.txn_key.specs.declared.key.Key.{Key}
 use Rattle.store_trait.specs.Edits.{with_token}
 use Rattle.store_trait.specs.View.{View, valid_nonce, HasKey}
 use Rattle.store_trait.specs.Readiness.{token, In, Before, StandsAt}

@@ -5,10 +5,9 @@ use Rattle.std.specs.FinMap.{get, get-entries, entries, entries_sorted, get-from
 use Rattle.std.specs.FinMap.Entries.{below_all}
 use Rattle.std.specs.List.{filter_map, cons_option}
 use Rattle.doc_value.specs.declared.value.Value.{Value}
-use Rattle.txn_record.proofs.KeyOrder.{key_cmp_total}
-use Rattle.txn_record.specs.Keys.{key_cmp}
-use Rattle.txn_record.specs.Revnos.{same_key}
-use Rattle.txn_record.specs.declared.key.Key.{Key}
+use Rattle.txn_key.proofs.KeyOrder.{key_cmp_total}
+use Rattle.txn_key.specs.Keys.{key_cmp, same_key}
+use Rattle.txn_key.specs.declared.key.Key.{Key}
 use Rattle.store_trait.proofs.NameOrder.{name_cmp_total, name_cmp-IsAntisymmetric}
 use Rattle.store_trait.specs.Cells.{as_doc}
 use Rattle.store_trait.specs.Contents.{Content}

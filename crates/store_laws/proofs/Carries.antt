@@ -1,8 +1,8 @@
 -- What stays as it was where nothing new stands before decided records.
 use Rattle.std.proofs.Common.{◌≡◌, true, false, Some, ◌⊎◌, inl, inr, ⊎_elim, sym, ◌∙◌}
+use Rattle.txn_key.specs.declared.id.TxnId.{TxnId}
+use Rattle.txn_key.specs.declared.id.Token.{Token}
 use Rattle.txn_record.specs.Walks.{Leads}
-use Rattle.txn_record.specs.declared.id.TxnId.{TxnId}
-use Rattle.txn_record.specs.declared.id.Token.{Token}
 use Rattle.store_trait.specs.View.{View, decided, settled, valid_nonce}
 use Rattle.store_trait.specs.Readiness.{token, StandsAt, Stands, Precedes, Ancestor, Sealed, IsReady, IsClean, IsSpent}
 use Rattle.store_trait.specs.Later.{NothingNewBefore, IsLater}

@@ -3,8 +3,9 @@ use Rattle.std.proofs.Common.{◌≡◌, ℕ, ◌+◌, ◌<◌, lt_irrefl, lt_of
 use Rattle.std.proofs.lemmas.Bool.{and_parts}
 use Rattle.std.proofs.lemmas.Bool.Decides.{Decides-int_eq}
 use Rattle.std.proofs.lemmas.Option.{same_Some}
-use Rattle.txn_record.specs.Revnos.{same_key, follows, first_on, is_on_chain, number_after}
-use Rattle.txn_record.specs.declared.key.Key.{Key}
+use Rattle.txn_key.specs.Keys.{same_key}
+use Rattle.txn_key.specs.declared.key.Key.{Key}
+use Rattle.txn_record.specs.Revnos.{follows, first_on, is_on_chain, number_after}
 use Rattle.txn_record.specs.declared.op.Change.{Change}
 use Rattle.txn_record.specs.declared.op.Op.{Op}
 use Rattle.store_laws.proofs.Inherits.{First, head_has, tail_here, tail_away, chain_has}

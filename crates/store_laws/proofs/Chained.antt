@@ -1,6 +1,6 @@
 -- Steps follow one another.
 use Rattle.std.proofs.Common.{◌≡◌, ℤ, ◌≤◌, le_trans, lt_of_lt_of_le, true, List, [], ◌∷◌, ◌⊎◌, inl, inr, ⊎_elim, refl, subst}
-use Rattle.txn_record.specs.declared.key.Key.{Key}
+use Rattle.txn_key.specs.declared.key.Key.{Key}
 use Rattle.txn_record.specs.declared.op.Op.{Op}
 use Rattle.txn_record.specs.declared.state.State.{State}
 use Rattle.txn_record.specs.declared.state.State.TheVariants as state

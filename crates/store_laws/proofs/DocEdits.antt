@@ -2,8 +2,8 @@
 use Rattle.std.proofs.Common.{le_of_eq, negsuc, option_to_list, ◌≡◌, ◌≢◌, ℕ, ◌≤◌, ◌<◌, ◌+◌, nat_lt, Bool, true, false, cond, Option, Some, None, List, [], ◌++◌, ⊎_elim, sym, ap, ◌∙◌, refl, subst, arith}
 use Rattle.std.specs.Option.{option_and_then, unwrap_or}
 use Rattle.std.specs.FinMap.{get, insert}
-use Rattle.txn_record.specs.declared.id.Token.{Token}
-use Rattle.txn_record.specs.declared.key.Key.{Key}
+use Rattle.txn_key.specs.declared.id.Token.{Token}
+use Rattle.txn_key.specs.declared.key.Key.{Key}
 use Rattle.store_trait.specs.Cells.{as_record, as_doc, as_counter}
 use Rattle.store_trait.specs.Contents.{Content}
 use Rattle.store_trait.specs.Edits.{puts, unmarked, hit_draw_nonce, hit_add_token, nonce_limit, with_token, put_under, edited}

@@ -3,9 +3,9 @@ use Rattle.std.proofs.Common.{◌≡◌, true, None, List, [], ◌∷◌, length
 use Rattle.std.specs.Option.{option_and_then}
 use Rattle.std.specs.FinMap.{empty, get, get-empty, entries, from_entries, len-empty, len-entries}
 use Rattle.std.specs.List.{filter_map, flat_map}
-use Rattle.txn_record.specs.Documents.{effect}
-use Rattle.txn_record.specs.declared.id.TxnId.{TxnId}
-use Rattle.txn_record.specs.declared.key.Key.{Key}
+use Rattle.txn_key.specs.declared.id.TxnId.{TxnId}
+use Rattle.txn_key.specs.declared.key.Key.{Key}
+use Rattle.txn_record.specs.Effects.{effect}
 use Rattle.store_trait.specs.Cells.{as_record, as_doc, as_stash}
 use Rattle.store_trait.specs.Contents.{Content}
 use Rattle.store_trait.specs.Meaning.{meaning, owned_body, pending_of}

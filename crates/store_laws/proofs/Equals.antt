@@ -3,11 +3,11 @@ use Rattle.std.proofs.Common.{◌≡◌, ◌≢◌, Bool, true, false, ◌⊎◌
 use Rattle.std.proofs.lemmas.Cmp.{tied_itself}
 use Rattle.std.specs.Cmp.{Equal-is}
 use Rattle.std.specs.Ordering.{is_eq}
-use Rattle.txn_record.proofs.KeyOrder.{id_cmp_total, id_cmp-IsAntisymmetric}
-use Rattle.txn_record.specs.Keys.{id_cmp}
-use Rattle.txn_record.specs.Revnos.{same_key}
-use Rattle.txn_record.specs.declared.id.TxnId.{TxnId}
-use Rattle.txn_record.specs.declared.key.Key.{Key}
+use Rattle.txn_key.proofs.KeyOrder.{id_cmp_total, id_cmp-IsAntisymmetric}
+use Rattle.txn_key.specs.Ids.{id_cmp}
+use Rattle.txn_key.specs.Keys.{same_key}
+use Rattle.txn_key.specs.declared.id.TxnId.{TxnId}
+use Rattle.txn_key.specs.declared.key.Key.{Key}
 use Rattle.store_laws.proofs.Runs.{same_key-equal, same_key-other}
 
 pub by_key : (a b : Key) (P : Bool → Type 0) → (a ≡ b → P true) → (a ≢ b → P false) → P (same_key a b)

@@ -1,9 +1,9 @@
 -- No two ready records that wait have a key in common.
 use Rattle.std.proofs.Common.{◌≡◌, ◌≢◌, ℕ, true, Option, Some, None, is_some, ⊎_elim, refl, sym, ◌∙◌, ap}
-use Rattle.txn_record.proofs.KeyOrder.{id_cmp_total}
-use Rattle.txn_record.specs.declared.id.TxnId.{TxnId}
-use Rattle.txn_record.specs.declared.id.Token.{Token}
-use Rattle.txn_record.specs.declared.key.Key.{Key}
+use Rattle.txn_key.proofs.KeyOrder.{id_cmp_total}
+use Rattle.txn_key.specs.declared.id.TxnId.{TxnId}
+use Rattle.txn_key.specs.declared.id.Token.{Token}
+use Rattle.txn_key.specs.declared.key.Key.{Key}
 use Rattle.store_trait.specs.View.{View, applying, waiting, valid_nonce, HasKey}
 use Rattle.store_trait.specs.Readiness.{token, In, Before, Ancestor, IsReady}
 use Rattle.store_trait.specs.Later.{IsUndecided}

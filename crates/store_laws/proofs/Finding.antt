@@ -1,10 +1,10 @@
 -- What was found lasts, and what is missing is settled.
 use Rattle.std.proofs.Common.{◌≡◌, ◌≢◌, ℕ, Bool, true, false, Some, List, [], ◌∷◌, ◌⊎◌, inl, inr, sym, ◌∙◌, refl, subst}
 use Rattle.std.proofs.lemmas.Option.{same_Some}
+use Rattle.txn_key.specs.declared.id.TxnId.{TxnId}
+use Rattle.txn_key.specs.declared.id.Token.{Token}
+use Rattle.txn_key.specs.declared.key.Key.{Key}
 use Rattle.txn_record.specs.States.{is_decided_state}
-use Rattle.txn_record.specs.declared.id.TxnId.{TxnId}
-use Rattle.txn_record.specs.declared.id.Token.{Token}
-use Rattle.txn_record.specs.declared.key.Key.{Key}
 use Rattle.store_trait.specs.View.{View, decided, settled, waits_for_documents, valid_nonce, HasKey}
 use Rattle.store_trait.specs.Readiness.{token, In, Before, StandsAt, Precedes, IsClean}
 use Rattle.store_trait.specs.Later.{NothingNewBefore, IsLater}

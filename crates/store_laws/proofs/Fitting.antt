@@ -4,10 +4,11 @@ use Rattle.std.specs.FinMap.{get}
 use Rattle.std.specs.List.{list_all}
 use Rattle.std.proofs.lemmas.Bool.{and_parts}
 use Rattle.doc_value.specs.declared.value.Value.{Value}
-use Rattle.txn_record.specs.Documents.{Docs, effect_of, body_after, tests, changes_fit, change_fits, assertion_holds}
-use Rattle.txn_record.proofs.DocumentLaws.{get-effect_of_other}
-use Rattle.txn_record.specs.Revnos.{same_key}
-use Rattle.txn_record.specs.declared.key.Key.{Key}
+use Rattle.txn_key.specs.Documents.{Docs}
+use Rattle.txn_key.specs.Keys.{same_key}
+use Rattle.txn_key.specs.declared.key.Key.{Key}
+use Rattle.txn_record.specs.Effects.{effect_of, body_after, tests, changes_fit, change_fits, assertion_holds}
+use Rattle.txn_record.proofs.EffectLaws.{get-effect_of_other}
 use Rattle.txn_record.specs.declared.op.Op.{Op}
 use Rattle.store_trait.specs.View.{IsOn}
 use Rattle.store_laws.proofs.Runs.{run_on, get-effect, same_key-equal}

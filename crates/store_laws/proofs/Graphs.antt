@@ -1,9 +1,9 @@
 -- A gathering whose members' keys were scanned names a ready record.
 use Rattle.std.proofs.Common.{◌≡◌, List, true, false, inr, ⊎_elim, sym, ◌∙◌, true≢false}
+use Rattle.txn_key.specs.declared.id.TxnId.{TxnId}
+use Rattle.txn_key.specs.declared.id.Token.{Token}
+use Rattle.txn_key.specs.declared.key.Key.{Key}
 use Rattle.txn_record.specs.Walks.{Leads}
-use Rattle.txn_record.specs.declared.id.TxnId.{TxnId}
-use Rattle.txn_record.specs.declared.id.Token.{Token}
-use Rattle.txn_record.specs.declared.key.Key.{Key}
 use Rattle.store_trait.specs.View.{View, decided, settled, HasKey}
 use Rattle.store_trait.specs.Readiness.{In, token, Ancestor, IsReady, IsClean}
 use Rattle.store_trait.specs.Later.{NothingNewBefore, IsLater}

@@ -2,8 +2,9 @@
 use Rattle.std.proofs.Common.{◌≡◌, Bool, true, false, ◌&&◌, ◌||◌, Some, List, [], ◌∷◌, inl, inr, sym, ap, ◌∙◌, refl, subst, ℤ, int_eq, if◌then◌else◌, true≢false}
 use Rattle.std.proofs.lemmas.Bool.{and_parts}
 use Rattle.std.proofs.lemmas.Bool.Decides.{Decides-int_eq}
-use Rattle.txn_record.specs.Revnos.{same_key, follows, first_on, is_on_chain, is_within, stays_within, number_after}
-use Rattle.txn_record.specs.declared.key.Key.{Key}
+use Rattle.txn_key.specs.Keys.{same_key}
+use Rattle.txn_key.specs.declared.key.Key.{Key}
+use Rattle.txn_record.specs.Revnos.{follows, first_on, is_on_chain, is_within, stays_within, number_after}
 use Rattle.txn_record.specs.declared.op.Change.{Change}
 use Rattle.txn_record.specs.declared.op.Op.{Op}
 use Rattle.store_trait.specs.View.{IsOn}

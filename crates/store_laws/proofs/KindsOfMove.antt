@@ -1,9 +1,9 @@
 -- The moves of a record's life: prepared, decided, done.
 use Rattle.std.proofs.Common.{◌≡◌, ℕ, ℤ, true, false, Some, None, List, refl, ◌∙◌, ap, subst}
 use Rattle.std.proofs.lemmas.Option.{same_Some}
+use Rattle.txn_key.specs.declared.id.TxnId.{TxnId}
+use Rattle.txn_key.specs.declared.key.Key.{Key}
 use Rattle.txn_record.specs.States.{is_decided_state, is_settled_state, is_chosen_state}
-use Rattle.txn_record.specs.declared.id.TxnId.{TxnId}
-use Rattle.txn_record.specs.declared.key.Key.{Key}
 use Rattle.txn_record.specs.declared.record.Record.{Record}
 use Rattle.txn_record.specs.declared.state.State.{State}
 use Rattle.txn_record.specs.declared.state.State.TheVariants as state

@@ -1,6 +1,6 @@
 -- Going forward is an order on contents.
 use Rattle.std.proofs.Common.{◌≡◌, le_trans, arith, true, inl, inr, ⊎_elim, refl, ◌∙◌}
-use Rattle.txn_record.specs.declared.id.TxnId.{TxnId}
+use Rattle.txn_key.specs.declared.id.TxnId.{TxnId}
 use Rattle.store_trait.specs.View.{View, settled, chosen, applying}
 use Rattle.store_trait.specs.Readiness.{IsReady, Sealed}
 use Rattle.store_trait.specs.Later.{NothingNewBefore, IsUndecided, IsLater}

@@ -3,10 +3,10 @@ use Rattle.std.proofs.Common.{◌≡◌, Bool, true, false, cond, Option, Some, 
 use Rattle.std.specs.Prelude.{option_and_then, unwrap_or}
 use Rattle.std.specs.FinMap.{get, insert, get-insert}
 use Rattle.std.specs.Ordering.{is_eq, eq_by_cmp}
-use Rattle.txn_record.specs.Keys.{id_cmp}
-use Rattle.txn_record.specs.Revnos.{same_key}
-use Rattle.txn_record.specs.declared.id.TxnId.{TxnId}
-use Rattle.txn_record.specs.declared.key.Key.{Key}
+use Rattle.txn_key.specs.Ids.{id_cmp}
+use Rattle.txn_key.specs.Keys.{same_key}
+use Rattle.txn_key.specs.declared.id.TxnId.{TxnId}
+use Rattle.txn_key.specs.declared.key.Key.{Key}
 use Rattle.store_trait.proofs.NameOrder.{name_cmp_total}
 use Rattle.store_trait.specs.Cells.{as_record, as_doc, as_stash, as_counter}
 use Rattle.store_trait.specs.Contents.{Content}

@@ -4,9 +4,9 @@ use mathlib.Core.Path.{fun_ext}
 use Rattle.std.specs.Prelude.{option_to_list, unwrap_or}
 use Rattle.std.specs.FinMap.{get, insert}
 use Rattle.std.specs.List.{flat_map}
-use Rattle.txn_record.specs.Documents.{effect}
-use Rattle.txn_record.specs.declared.id.TxnId.{TxnId}
-use Rattle.txn_record.specs.declared.key.Key.{Key}
+use Rattle.txn_key.specs.declared.id.TxnId.{TxnId}
+use Rattle.txn_key.specs.declared.key.Key.{Key}
+use Rattle.txn_record.specs.Effects.{effect}
 use Rattle.txn_record.specs.declared.op.Op.{Op}
 use Rattle.txn_record.specs.declared.record.Record.{Record}
 use Rattle.txn_record.specs.declared.state.State.TheVariants as state

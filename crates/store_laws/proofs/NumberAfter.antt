@@ -2,7 +2,7 @@
 use Rattle.std.proofs.Common.{◌≡◌, ℕ, zero, suc, ◌+◌, ◌≤◌, le_refl, Bool, true, false, not, Option, Some, None, is_some, ◌⊎◌, inl, inr, sym, ap, ◌∙◌, refl, subst, unsigned_abs, ℤ, pos, negsuc, if◌then◌else◌, arith, true≢false}
 use Rattle.std.proofs.lemmas.Bool.Decides.{nat_tests}
 use Rattle.doc_value.specs.declared.value.Value.{Value}
-use Rattle.txn_record.specs.Documents.{body_after, change_fits}
+use Rattle.txn_record.specs.Effects.{body_after, change_fits}
 use Rattle.txn_record.specs.Revnos.{is_present, has_effect, next_number, number_after}
 use Rattle.txn_record.specs.declared.op.Change.{Change}
 use Rattle.txn_record.specs.declared.op.Change.TheVariants as change

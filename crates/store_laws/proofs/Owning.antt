@@ -5,8 +5,8 @@ use Rattle.std.proofs.lemmas.Bool.Decides.{nat_tests}
 use Rattle.std.proofs.lemmas.Option.{same_Some}
 use Rattle.std.specs.Prelude.{option_and_then}
 use Rattle.std.specs.FinMap.{get}
+use Rattle.txn_key.specs.declared.key.Key.{Key}
 use Rattle.txn_record.specs.Revnos.{is_present, is_within}
-use Rattle.txn_record.specs.declared.key.Key.{Key}
 use Rattle.store_trait.specs.Cells.{as_doc, as_stash}
 use Rattle.store_trait.specs.Contents.{Content}
 use Rattle.store_trait.specs.Owners.{owner_of, epoch}

@@ -4,9 +4,9 @@ use Rattle.std.proofs.lemmas.Option.{same_Some}
 use Rattle.std.proofs.lemmas.Bool.{and_parts}
 use Rattle.std.specs.FinMap.{get}
 use Rattle.doc_value.specs.declared.value.Value.{Value}
+use Rattle.txn_key.specs.declared.id.Token.{Token}
+use Rattle.txn_key.specs.declared.id.TxnId.{TxnId}
 use Rattle.txn_record.specs.Revnos.{is_present, is_within, has_effect}
-use Rattle.txn_record.specs.declared.id.Token.{Token}
-use Rattle.txn_record.specs.declared.id.TxnId.{TxnId}
 use Rattle.txn_record.specs.declared.op.Change.{Change}
 use Rattle.txn_record.specs.declared.op.Change.TheVariants.{Update}
 use Rattle.txn_record.specs.declared.op.Op.{Op}

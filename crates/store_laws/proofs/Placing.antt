@@ -4,11 +4,12 @@ use Rattle.std.specs.Option.{option_and_then}
 use Rattle.std.specs.FinMap.{get, insert, get-insert}
 use Rattle.std.specs.List.{flat_map}
 use Rattle.doc_value.specs.declared.value.Value.{Value}
-use Rattle.txn_record.proofs.KeyOrder.{key_cmp_total}
-use Rattle.txn_record.specs.Documents.{changes_fit}
-use Rattle.txn_record.specs.Revnos.{same_key, is_on_chain}
-use Rattle.txn_record.specs.declared.id.TxnId.{TxnId}
-use Rattle.txn_record.specs.declared.key.Key.{Key}
+use Rattle.txn_key.proofs.KeyOrder.{key_cmp_total}
+use Rattle.txn_key.specs.Keys.{same_key}
+use Rattle.txn_key.specs.declared.id.TxnId.{TxnId}
+use Rattle.txn_key.specs.declared.key.Key.{Key}
+use Rattle.txn_record.specs.Effects.{changes_fit}
+use Rattle.txn_record.specs.Revnos.{is_on_chain}
 use Rattle.txn_record.specs.declared.op.Op.{Op}
 use Rattle.txn_record.specs.declared.record.Record.{Record}
 use Rattle.txn_record.specs.declared.state.State.TheVariants as state

@@ -2,7 +2,7 @@
 use Rattle.std.proofs.Common.{◌≡◌, ◌≢◌, Bool, true, false, ◌&&◌, ◌||◌, true≢false, eqb, bytes_eq, List, [], ◌∷◌, ◌++◌, ◌⊎◌, inl, inr, ⊎_elim, refl, sym, ◌∙◌, ap, cond, subst}
 use Rattle.std.proofs.lemmas.Bool.{eq-eqb, eqb-true, and_parts}
 use Rattle.std.proofs.lemmas.Slice.Eq.{bytes_eq-Decides}
-use Rattle.txn_record.specs.declared.id.Token.{Token}
+use Rattle.txn_key.specs.declared.id.Token.{Token}
 use Rattle.store_trait.specs.Readiness.{In, Before}
 use Rattle.store_trait.specs.Edits.{same_token, has_token, with_token}
 

@@ -5,7 +5,7 @@ use Rattle.std.specs.FinMap.{get, insert, entries}
 use Rattle.std.specs.List.{AllByRecursion, filter_map}
 use Rattle.std.proofs.lemmas.List.Elements.{filter_map-append}
 use Rattle.std.proofs.lemmas.Slice.Eq.{bytes_eq-Decides}
-use Rattle.txn_record.specs.declared.id.TxnId.{TxnId}
+use Rattle.txn_key.specs.declared.id.TxnId.{TxnId}
 use Rattle.txn_record.specs.declared.record.Record.{Record}
 use Rattle.store_trait.proofs.NameOrder.{name_cmp_total, name_cmp-IsAntisymmetric}
 use Rattle.store_trait.specs.Cells.{as_record}

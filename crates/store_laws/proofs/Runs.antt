@@ -5,12 +5,12 @@ use Rattle.std.specs.FinMap.{get, same_map}
 use Rattle.std.specs.Ordering.{is_eq}
 use Rattle.std.proofs.lemmas.Cmp.{tied_itself}
 use Rattle.doc_value.specs.declared.value.Value.{Value}
-use Rattle.txn_record.proofs.DocumentLaws.{get-effect_of_here, get-effect_of_other}
-use Rattle.txn_record.proofs.KeyOrder.{key_cmp_total, key_cmp-IsAntisymmetric}
-use Rattle.txn_record.specs.Documents.{Docs, effect, effect_of, body_after}
-use Rattle.txn_record.specs.Keys.{key_cmp}
-use Rattle.txn_record.specs.Revnos.{same_key}
-use Rattle.txn_record.specs.declared.key.Key.{Key}
+use Rattle.txn_key.proofs.KeyOrder.{key_cmp_total, key_cmp-IsAntisymmetric}
+use Rattle.txn_key.specs.Documents.{Docs}
+use Rattle.txn_key.specs.Keys.{key_cmp, same_key}
+use Rattle.txn_key.specs.declared.key.Key.{Key}
+use Rattle.txn_record.proofs.EffectLaws.{get-effect_of_here, get-effect_of_other}
+use Rattle.txn_record.specs.Effects.{effect, effect_of, body_after}
 use Rattle.txn_record.specs.declared.op.Op.{Op}
 use Rattle.store_trait.specs.View.{IsOn}
 

@@ -1,11 +1,11 @@
 -- How one edit changes what a content looks like.
 use Rattle.std.proofs.Common.{◌≡◌, ◌≢◌, ◌≤◌, Some, List, if◌then◌else◌}
 use Rattle.std.specs.Ordering.{is_eq}
-use Rattle.txn_record.specs.Keys.{id_cmp}
-use Rattle.txn_record.specs.Revnos.{same_key}
-use Rattle.txn_record.specs.declared.id.TxnId.{TxnId}
-use Rattle.txn_record.specs.declared.id.Token.{Token}
-use Rattle.txn_record.specs.declared.key.Key.{Key}
+use Rattle.txn_key.specs.Ids.{id_cmp}
+use Rattle.txn_key.specs.Keys.{same_key}
+use Rattle.txn_key.specs.declared.id.TxnId.{TxnId}
+use Rattle.txn_key.specs.declared.id.Token.{Token}
+use Rattle.txn_key.specs.declared.key.Key.{Key}
 use Rattle.txn_record.specs.declared.record.Record.{Record}
 use Rattle.store_trait.specs.Edits.{with_token}
 use Rattle.store_trait.specs.View.{View}

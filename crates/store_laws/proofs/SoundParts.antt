@@ -2,9 +2,9 @@
 use Rattle.std.proofs.Common.{◌≡◌, ◌<◌, true, Some, [], IfSome, IsTrue, unwrap_or, sym, ◌∙◌, subst}
 use Rattle.std.proofs.lemmas.Option.{same_Some}
 use Rattle.std.specs.FinMap.{insert}
-use Rattle.txn_record.specs.Documents.{changes_fit}
+use Rattle.txn_key.specs.declared.id.TxnId.{TxnId}
+use Rattle.txn_record.specs.Effects.{changes_fit}
 use Rattle.txn_record.specs.Revnos.{is_on_chain}
-use Rattle.txn_record.specs.declared.id.TxnId.{TxnId}
 use Rattle.txn_record.specs.declared.record.Record.{Record}
 use Rattle.txn_record.specs.declared.state.State.TheVariants as state
 use Rattle.store_trait.specs.Names.{same_state, may_stand}

@@ -3,9 +3,10 @@ use Rattle.std.proofs.Common.{◌≡◌, ◌≢◌, Bool, true, ◌&&◌, Some, 
 use Rattle.std.specs.FinMap.{get}
 use Rattle.std.proofs.lemmas.Bool.{and_parts}
 use Rattle.doc_value.specs.declared.value.Value.{Value}
-use Rattle.txn_record.proofs.DocumentLaws.{get-effect_of_other}
-use Rattle.txn_record.specs.Documents.{Docs, body_after, change_fits, changes_fit, effect_of}
-use Rattle.txn_record.specs.declared.key.Key.{Key}
+use Rattle.txn_key.specs.Documents.{Docs}
+use Rattle.txn_key.specs.declared.key.Key.{Key}
+use Rattle.txn_record.proofs.EffectLaws.{get-effect_of_other}
+use Rattle.txn_record.specs.Effects.{body_after, change_fits, changes_fit, effect_of}
 use Rattle.txn_record.specs.declared.op.Change.{Change}
 use Rattle.txn_record.specs.declared.op.Op.{Op}
 use Rattle.store_trait.specs.View.{IsOn}

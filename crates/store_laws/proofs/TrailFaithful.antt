@@ -1,10 +1,11 @@
 -- A trail of calls is a faithful history.
 use Rattle.std.proofs.Common.{◌≡◌, ℕ, zero, suc, ◌+◌, ◌-◌, ◌≤◌, Some, List, [], ◌∷◌, ◌++◌, ◌⊎◌, ⊎_elim, sym, ap, ◌∙◌, refl, subst, arith}
 use Rattle.std.proofs.lemmas.Option.{same_Some}
-use Rattle.txn_record.specs.Documents.{Docs, after, outcome_effect}
+use Rattle.txn_key.specs.Documents.{Docs}
+use Rattle.txn_key.specs.declared.id.TxnId.{TxnId}
+use Rattle.txn_record.specs.Orders.{after, outcome_effect}
 use Rattle.txn_record.specs.declared.entry.Entry.{Entry}
 use Rattle.txn_record.specs.declared.entry.Outcome.{Outcome}
-use Rattle.txn_record.specs.declared.id.TxnId.{TxnId}
 use Rattle.txn_record.specs.declared.record.Record.{Record}
 use Rattle.store_trait.specs.Contents.{Content}
 use Rattle.store_trait.specs.Decisions.{decided_by, decisions, outcome_of}

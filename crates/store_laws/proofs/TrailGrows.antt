@@ -1,6 +1,6 @@
 -- How a trail of calls grows.
 use Rattle.std.proofs.Common.{◌≡◌, ℕ, zero, suc, ◌+◌, ◌<◌, ◌≤◌, List, [], ◌++◌, ◌⊎◌, ⊎_elim, sym, ap, ◌∙◌, refl, subst, arith}
-use Rattle.txn_record.specs.Documents.{Docs}
+use Rattle.txn_key.specs.Documents.{Docs}
 use Rattle.txn_record.specs.declared.entry.Entry.{Entry}
 use Rattle.store_trait.specs.Contents.{Content}
 use Rattle.store_trait.specs.Decisions.{decided_by, decisions}

@@ -3,11 +3,13 @@ use Rattle.std.proofs.Common.{◌≡◌, ℕ, zero, suc, ◌+◌, ◌≤◌, Boo
 use Rattle.std.specs.List.{AllByRecursion}
 use Rattle.std.proofs.lemmas.Slice.Eq.{bytes_eq-Decides}
 use Rattle.std.specs.Str.{bytes_eq}
+use Rattle.txn_key.specs.Documents.{Docs}
+use Rattle.txn_key.specs.declared.id.TxnId.{TxnId}
 use Rattle.txn_record.proofs.OrderLaws.{legal-push}
-use Rattle.txn_record.specs.Documents.{Docs, after, tests, is_right, has_entry, legal}
+use Rattle.txn_record.specs.Orders.{after, is_right, has_entry, legal}
+use Rattle.txn_record.specs.Effects.{tests}
 use Rattle.txn_record.specs.States.{is_chosen_state}
 use Rattle.txn_record.specs.declared.entry.Entry.{Entry}
-use Rattle.txn_record.specs.declared.id.TxnId.{TxnId}
 use Rattle.txn_record.specs.declared.record.Record.{Record}
 use Rattle.txn_record.specs.declared.state.State.{State}
 use Rattle.txn_record.specs.declared.state.State.TheVariants as state

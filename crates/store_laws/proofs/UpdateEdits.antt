@@ -7,12 +7,13 @@ use Rattle.std.specs.List.{list_any}
 use Rattle.std.specs.Prelude.{option_and_then, option_map}
 use Rattle.std.specs.FinMap.{get}
 use Rattle.doc_value.specs.declared.value.Value.{Value}
-use Rattle.txn_record.specs.Revnos.{same_key, is_within, is_present, is_on_chain, has_effect, number_after, follows}
+use Rattle.txn_key.specs.Keys.{same_key}
+use Rattle.txn_record.specs.Revnos.{is_within, is_present, is_on_chain, has_effect, number_after, follows}
 use Rattle.doc_update.specs.Updates.{updated}
-use Rattle.txn_record.specs.declared.id.TxnId.{TxnId}
-use Rattle.txn_record.specs.declared.id.Token.{Token}
-use Rattle.txn_record.specs.declared.key.Key.{Key}
-use Rattle.txn_record.specs.Documents.{changes_fit, change_fits}
+use Rattle.txn_key.specs.declared.id.TxnId.{TxnId}
+use Rattle.txn_key.specs.declared.id.Token.{Token}
+use Rattle.txn_key.specs.declared.key.Key.{Key}
+use Rattle.txn_record.specs.Effects.{changes_fit, change_fits}
 use Rattle.txn_record.specs.declared.op.Change.{Change}
 use Rattle.txn_record.specs.declared.op.Op.{Op}
 use Rattle.txn_record.specs.declared.state.State.TheVariants as state

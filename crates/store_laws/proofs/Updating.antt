@@ -7,14 +7,15 @@ use Rattle.std.specs.Prelude.{option_and_then, option_map}
 use Rattle.std.specs.FinMap.{get}
 use Rattle.std.specs.Ordering.{is_eq}
 use Rattle.doc_value.specs.declared.value.Value.{Value}
-use Rattle.txn_record.proofs.KeyOrder.{id_cmp_total, id_cmp-IsAntisymmetric}
+use Rattle.txn_key.proofs.KeyOrder.{id_cmp_total, id_cmp-IsAntisymmetric}
 use Rattle.std.proofs.lemmas.Cmp.{tied_itself}
-use Rattle.txn_record.specs.Documents.{changes_fit, body_after, effect_of}
-use Rattle.txn_record.specs.Keys.{id_cmp}
-use Rattle.txn_record.specs.Revnos.{same_key, is_present, is_within, has_effect, number_after, is_on_chain, stays_within, follows}
+use Rattle.txn_key.specs.Ids.{id_cmp}
+use Rattle.txn_key.specs.Keys.{same_key}
+use Rattle.txn_record.specs.Effects.{changes_fit, body_after, effect_of}
+use Rattle.txn_record.specs.Revnos.{is_present, is_within, has_effect, number_after, is_on_chain, stays_within, follows}
 use Rattle.doc_update.specs.Updates.{updated}
-use Rattle.txn_record.specs.declared.id.TxnId.{TxnId}
-use Rattle.txn_record.specs.declared.key.Key.{Key}
+use Rattle.txn_key.specs.declared.id.TxnId.{TxnId}
+use Rattle.txn_key.specs.declared.key.Key.{Key}
 use Rattle.txn_record.specs.declared.op.Change.{Change}
 use Rattle.txn_record.specs.declared.op.Op.{Op}
 use Rattle.txn_record.specs.declared.record.Record.{Record}
@@ -44,7 +45,7 @@ use Rattle.store_laws.proofs.Fitting.{changes_fit-agree, taken_fits}
 use Rattle.store_laws.proofs.Inherits.{at_on, at_leaves, at_within}
 use Rattle.store_laws.proofs.Taken.{Taken, taken}
 use Rattle.store_laws.proofs.Thinned.{thinned_away, thinned_fits}
-use Rattle.txn_record.proofs.DocumentLaws.{get-effect_of_here, get-effect_of_other}
+use Rattle.txn_record.proofs.EffectLaws.{get-effect_of_here, get-effect_of_other}
 use Rattle.store_laws.proofs.Idle.{OnlyApplies, on_pending, pending_of-keys, pending_of-applying}
 use Rattle.store_laws.proofs.RecordEdits.{stored_numbers}
 use Rattle.store_laws.proofs.Lookups

@@ -1,7 +1,7 @@
 -- What is held at a key changes, or only the counter.
 use Rattle.std.proofs.Common.{◌≡◌, true, [], ⊎_elim, subst, arith}
-use Rattle.txn_record.specs.declared.id.TxnId.{TxnId}
-use Rattle.txn_record.specs.declared.key.Key.{Key}
+use Rattle.txn_key.specs.declared.id.TxnId.{TxnId}
+use Rattle.txn_key.specs.declared.key.Key.{Key}
 use Rattle.store_trait.specs.View.{View, applying, HasKey}
 use Rattle.store_trait.specs.Readiness.{In, IsReady}
 use Rattle.store_trait.specs.Later.{IsUndecided, IsLater}

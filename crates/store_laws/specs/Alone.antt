@@ -1,8 +1,8 @@
 -- A runner that settles one transaction at a time.
 use Rattle.std.specs.Prelude.{◌≡◌, ◌≢◌, true}
-use Rattle.txn_record.specs.declared.id.TxnId.{TxnId}
-use Rattle.txn_record.specs.declared.id.Token.{Token}
-use Rattle.txn_record.specs.declared.key.Key.{Key}
+use Rattle.txn_key.specs.declared.id.TxnId.{TxnId}
+use Rattle.txn_key.specs.declared.id.Token.{Token}
+use Rattle.txn_key.specs.declared.key.Key.{Key}
 use Rattle.store_trait.specs.View.{View, settled}
 use Rattle.store_trait.specs.Readiness.{In}
 

@@ -1,9 +1,9 @@
 -- The revision numbers that a decision to apply writes down, and the record that they stand in.
 use Rattle.std.specs.Prelude.{◌≡◌, true, ℤ, Some, List, [], ◌∷◌, ◌⊎◌}
+use Rattle.txn_key.specs.declared.key.Key.{Key}
+use Rattle.txn_key.specs.declared.id.TxnId.{TxnId}
 use Rattle.txn_record.specs.Revnos.{follows, stays_within, first_on}
-use Rattle.txn_record.specs.declared.key.Key.{Key}
 use Rattle.txn_record.specs.declared.op.Op.{Op}
-use Rattle.txn_record.specs.declared.id.TxnId.{TxnId}
 use Rattle.txn_record.specs.declared.op.Change.TheVariants.{Update}
 use Rattle.txn_record.specs.declared.record.Record.{Record}
 use Rattle.txn_record.specs.declared.state.State.TheVariants as state

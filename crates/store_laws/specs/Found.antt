@@ -1,8 +1,8 @@
 -- What a runner finds in queues, and what it may still say of it while others go on.
 use Rattle.std.specs.Prelude.{List, ◌⊎◌}
-use Rattle.txn_record.specs.declared.id.TxnId.{TxnId}
-use Rattle.txn_record.specs.declared.id.Token.{Token}
-use Rattle.txn_record.specs.declared.key.Key.{Key}
+use Rattle.txn_key.specs.declared.id.TxnId.{TxnId}
+use Rattle.txn_key.specs.declared.id.Token.{Token}
+use Rattle.txn_key.specs.declared.key.Key.{Key}
 use Rattle.store_trait.specs.View.{View}
 use Rattle.store_trait.specs.Readiness.{In, StandsAt, IsSpent}
 

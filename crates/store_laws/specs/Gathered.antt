@@ -2,11 +2,11 @@
 -- members that were read as settled. The content's own edges may since have gone.
 use Rattle.std.specs.Prelude.{◌≡◌, ◌≢◌, true, Some, List, Contains, ◌⊎◌}
 use Rattle.std.specs.declared.cmp.Ordering.TheVariants.{Less}
-use Rattle.txn_record.specs.Keys.{id_cmp}
+use Rattle.txn_key.specs.Ids.{id_cmp}
+use Rattle.txn_key.specs.declared.id.TxnId.{TxnId}
+use Rattle.txn_key.specs.declared.id.Token.{Token}
+use Rattle.txn_key.specs.declared.key.Key.{Key}
 use Rattle.txn_record.specs.Walks.{Leads}
-use Rattle.txn_record.specs.declared.id.TxnId.{TxnId}
-use Rattle.txn_record.specs.declared.id.Token.{Token}
-use Rattle.txn_record.specs.declared.key.Key.{Key}
 use Rattle.store_trait.specs.View.{View, decided, settled, valid_nonce}
 use Rattle.store_trait.specs.Readiness.{StandsAt, Precedes, IsClean}
 

@@ -2,7 +2,7 @@
 use Rattle.std.specs.Prelude.{◌≡◌, ℕ, pos, None, []}
 use Rattle.std.specs.FinMap.{insert}
 use Rattle.doc_value.specs.declared.value.Value.{Value}
-use Rattle.txn_record.specs.declared.key.Key.{Key}
+use Rattle.txn_key.specs.declared.key.Key.{Key}
 use Rattle.store_trait.specs.Contents.{Content}
 use Rattle.store_trait.specs.Decisions.{decided_by}
 use Rattle.store_trait.specs.Later.{Later}

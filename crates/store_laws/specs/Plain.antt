@@ -1,7 +1,7 @@
 -- Contents of documents alone.
 use Rattle.std.specs.Prelude.{◌≡◌, Option, Some, None, option_map}
 use Rattle.doc_value.specs.declared.value.Value.{Value}
-use Rattle.txn_record.specs.declared.key.Key.{Key}
+use Rattle.txn_key.specs.declared.key.Key.{Key}
 use Rattle.store_trait.specs.Contents.{Content}
 use Rattle.store_trait.specs.View.{doc_at, stash_at}
 use Rattle.store_trait.specs.declared.cell.DocCell.{DocCell}

@@ -1,6 +1,6 @@
 -- The history of a store's content, call by call.
 use Rattle.std.specs.Prelude.{◌≡◌, ℕ, ◌+◌, ◌<◌, true, Some, List, [], ◌∷◌, ◌⊎◌}
-use Rattle.txn_record.specs.Documents.{Docs}
+use Rattle.txn_key.specs.Documents.{Docs}
 use Rattle.txn_record.specs.declared.entry.Entry.{Entry}
 use Rattle.txn_record.specs.declared.record.Record.{Record}
 use Rattle.store_trait.specs.Contents.{Content}

@@ -2,9 +2,9 @@
 //! it meets in a queue is its own transaction's, or of a settled one.
 ghost use Rattle.std.specs.Prelude.{◌≡◌, ℤ, true, None};
 ghost use Rattle.doc_value.specs.declared.value.Value.{Value};
-ghost use Rattle.txn_record.specs.declared.id.Token.{Token};
-ghost use Rattle.txn_record.specs.declared.id.TxnId.{TxnId};
-ghost use Rattle.txn_record.specs.declared.key.Key.{Key};
+ghost use Rattle.txn_key.specs.declared.id.Token.{Token};
+ghost use Rattle.txn_key.specs.declared.id.TxnId.{TxnId};
+ghost use Rattle.txn_key.specs.declared.key.Key.{Key};
 ghost use Rattle.store_trait.specs.Contents.{Content};
 ghost use Rattle.store_trait.specs.Edits.{edited};
 ghost use Rattle.store_trait.specs.Later.{Later};

@@ -1,10 +1,10 @@
 //! The moves of a prepared record. Either is the decision on its transaction, made by one call.
 ghost use Rattle.std.specs.Prelude.{◌≡◌, ◌&&◌, true, false, ℤ, List, [], ◌∷◌, Some, None};
 ghost use Rattle.std.specs.FinMap.{get};
-ghost use Rattle.txn_record.specs.Documents.{tests, assertion_holds, change_fits};
+ghost use Rattle.txn_key.specs.declared.id.TxnId.{TxnId};
+ghost use Rattle.txn_key.specs.declared.key.Key.{Key};
+ghost use Rattle.txn_record.specs.Effects.{tests, assertion_holds, change_fits};
 ghost use Rattle.txn_record.specs.Revnos.{is_within, number_after};
-ghost use Rattle.txn_record.specs.declared.id.TxnId.{TxnId};
-ghost use Rattle.txn_record.specs.declared.key.Key.{Key};
 ghost use Rattle.txn_record.specs.declared.op.Op.{Op};
 ghost use Rattle.txn_record.specs.declared.record.Record.{Record};
 ghost use Rattle.txn_record.specs.declared.state.State.TheVariants as state;

@@ -1,8 +1,8 @@
 //! What a content means where no transaction is under way, and where nothing was removed yet.
 ghost use Rattle.std.specs.Prelude.{◌≡◌};
 ghost use Rattle.std.specs.FinMap.{get};
-ghost use Rattle.txn_record.specs.Documents.{Docs};
-ghost use Rattle.txn_record.specs.declared.key.Key.{Key};
+ghost use Rattle.txn_key.specs.Documents.{Docs};
+ghost use Rattle.txn_key.specs.declared.key.Key.{Key};
 ghost use Rattle.store_trait.specs.Contents.{Content};
 ghost use Rattle.store_trait.specs.Meaning.{bodies, meaning};
 ghost use Rattle.store_trait.specs.Soundness.{IsSound};

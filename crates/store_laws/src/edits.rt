@@ -3,9 +3,9 @@ ghost use Rattle.std.specs.Prelude.{◌≡◌, ◌≢◌, ℕ, ◌<◌, ℤ, tru
 ghost use Rattle.std.specs.FinMap.{get};
 ghost use Rattle.doc_value.specs.declared.value.Value.{Value};
 ghost use Rattle.doc_update.specs.Updates.{updated};
-ghost use Rattle.txn_record.specs.declared.id.Token.{Token};
-ghost use Rattle.txn_record.specs.declared.id.TxnId.{TxnId};
-ghost use Rattle.txn_record.specs.declared.key.Key.{Key};
+ghost use Rattle.txn_key.specs.declared.id.Token.{Token};
+ghost use Rattle.txn_key.specs.declared.id.TxnId.{TxnId};
+ghost use Rattle.txn_key.specs.declared.key.Key.{Key};
 ghost use Rattle.txn_record.specs.declared.record.Record.{Record};
 ghost use Rattle.txn_record.specs.declared.state.State.{State};
 ghost use Rattle.store_trait.specs.Contents.{Content};

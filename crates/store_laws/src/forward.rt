@@ -2,9 +2,9 @@
 //! theirs.
 ghost use Rattle.std.specs.Prelude.{◌≡◌, ◌≢◌, true, false, is_some};
 ghost use Rattle.std.specs.FinMap.{get};
-ghost use Rattle.txn_record.specs.declared.id.Token.{Token};
-ghost use Rattle.txn_record.specs.declared.id.TxnId.{TxnId};
-ghost use Rattle.txn_record.specs.declared.key.Key.{Key};
+ghost use Rattle.txn_key.specs.declared.id.Token.{Token};
+ghost use Rattle.txn_key.specs.declared.id.TxnId.{TxnId};
+ghost use Rattle.txn_key.specs.declared.key.Key.{Key};
 ghost use Rattle.store_trait.specs.Contents.{Content};
 ghost use Rattle.store_trait.specs.Edits.{hit, edited};
 ghost use Rattle.store_trait.specs.Later.{IsUndecided, Later};

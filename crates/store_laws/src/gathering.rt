@@ -1,10 +1,10 @@
 //! Laws of a gathering: a runner reads queues and records one at a time while others go on, and may
 //! still name a record that is ready, or one that is clean.
 ghost use Rattle.std.specs.Prelude.{◌≡◌, ◌≢◌, ℕ, false, true, Some, ◌⊎◌, List, []};
+ghost use Rattle.txn_key.specs.declared.id.Token.{Token};
+ghost use Rattle.txn_key.specs.declared.id.TxnId.{TxnId};
+ghost use Rattle.txn_key.specs.declared.key.Key.{Key};
 ghost use Rattle.txn_record.specs.Walks.{Leads};
-ghost use Rattle.txn_record.specs.declared.id.Token.{Token};
-ghost use Rattle.txn_record.specs.declared.id.TxnId.{TxnId};
-ghost use Rattle.txn_record.specs.declared.key.Key.{Key};
 ghost use Rattle.store_trait.specs.Contents.{Content};
 ghost use Rattle.store_trait.specs.Later.{Later};
 ghost use Rattle.store_trait.specs.Readiness.{token, In, Precedes, IsClean, IsReady};

@@ -1,9 +1,10 @@
 //! The history of a store's content: a trail of calls, each quiet or the decision on one transaction.
 ghost use Rattle.std.specs.Prelude.{◌≡◌, ℕ, ◌+◌, ◌≤◌, true, Some, List, [], ◌++◌, ◌⊎◌, All};
-ghost use Rattle.txn_record.specs.Documents.{Docs, after, legal};
+ghost use Rattle.txn_key.specs.Documents.{Docs};
+ghost use Rattle.txn_key.specs.declared.id.TxnId.{TxnId};
+ghost use Rattle.txn_record.specs.Orders.{after, legal};
 ghost use Rattle.txn_record.specs.States.{is_chosen_state};
 ghost use Rattle.txn_record.specs.declared.entry.Entry.{Entry};
-ghost use Rattle.txn_record.specs.declared.id.TxnId.{TxnId};
 ghost use Rattle.txn_record.specs.declared.record.Record.{Record};
 ghost use Rattle.store_trait.specs.Contents.{Content};
 ghost use Rattle.store_trait.specs.Decisions.{decided_by};

@@ -1,6 +1,6 @@
 //! What the owner of a key holds, where the key has no stash entry.
 ghost use Rattle.std.specs.Prelude.{◌≡◌, Some, None, []};
-ghost use Rattle.txn_record.specs.declared.key.Key.{Key};
+ghost use Rattle.txn_key.specs.declared.key.Key.{Key};
 ghost use Rattle.store_trait.specs.Contents.{Content};
 ghost use Rattle.store_trait.specs.Done.{progress};
 ghost use Rattle.store_trait.specs.View.{Body, look, doc_at, stash_at, epoch_at};

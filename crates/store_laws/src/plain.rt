@@ -2,9 +2,9 @@
 ghost use Rattle.std.specs.Prelude.{ℤ};
 ghost use Rattle.std.specs.FinMap.{empty};
 ghost use Rattle.doc_value.specs.declared.value.Value.{Value};
-ghost use Rattle.txn_record.specs.declared.id.Token.{Token};
-ghost use Rattle.txn_record.specs.declared.id.TxnId.{TxnId};
-ghost use Rattle.txn_record.specs.declared.key.Key.{Key};
+ghost use Rattle.txn_key.specs.declared.id.Token.{Token};
+ghost use Rattle.txn_key.specs.declared.id.TxnId.{TxnId};
+ghost use Rattle.txn_key.specs.declared.key.Key.{Key};
 ghost use Rattle.store_trait.specs.Contents.{Content};
 ghost use Rattle.store_trait.specs.Edits.{edited};
 ghost use Rattle.store_trait.specs.declared.cell.Cell.TheVariants as cell;

@@ -2,9 +2,9 @@
 //! makes these calls, and however often, the meaning stays.
 ghost use Rattle.std.specs.Prelude.{◌≡◌, ◌≤◌, unsigned_abs, false, ℕ, ℤ, List, [], ◌∷◌, Some, None, ◌⊎◌};
 ghost use Rattle.doc_value.specs.declared.value.Value.{Value};
+ghost use Rattle.txn_key.specs.declared.id.Token.{Token};
+ghost use Rattle.txn_key.specs.declared.id.TxnId.{TxnId};
 ghost use Rattle.txn_record.specs.Revnos.{has_effect};
-ghost use Rattle.txn_record.specs.declared.id.Token.{Token};
-ghost use Rattle.txn_record.specs.declared.id.TxnId.{TxnId};
 ghost use Rattle.txn_record.specs.declared.op.Change.TheVariants.{Update};
 ghost use Rattle.txn_record.specs.declared.op.Op.{Op};
 ghost use Rattle.txn_record.specs.declared.record.Record.{Record};

@@ -5,7 +5,7 @@ use std::alloc::Global;
 use std::cmp::Ordering;
 use std::test::Fail;
 use store_trait::{Cell, DocCell, Edit, Name, Named, Store, StoreError, counter_in};
-use txn_record::Key;
+use txn_key::Key;
 
 fn doc_name(alloc: Global, id: i64) -> Result<Name, OutOfMemory> {
     let c = Text::from_str(alloc, "k")?;

@@ -1,7 +1,7 @@
 use Rattle.std.proofs.Common.{◌≡◌, ◌+◌, Bool, true, false, Option, Some, None, option_map, cond, refl}
 use Rattle.doc_value.specs.declared.value.Value.{Value}
-use Rattle.txn_record.specs.declared.key.Key.{Key}
-use Rattle.txn_record.specs.declared.id.Token.{Token}
+use Rattle.txn_key.specs.declared.key.Key.{Key}
+use Rattle.txn_key.specs.declared.id.Token.{Token}
 use Rattle.doc_update.specs.Updates.{updated}
 use Rattle.store_trait.specs.Names.{same_id, same_state, may_stand, may_hold}
 use Rattle.store_trait.specs.Edits.{puts, unmarked, with_body, with_token, is_updatable, moved, may_leave, hit}

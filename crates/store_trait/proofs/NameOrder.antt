@@ -3,7 +3,7 @@ use Rattle.std.specs.Cmp.{IsTotalOrder}
 use Rattle.std.specs.FinMap.{IsAntisymmetric}
 use Rattle.std.specs.Ordering.{ordering_reverse}
 use Rattle.std.specs.declared.cmp.Ordering.TheVariants.{Less, Equal}
-use Rattle.txn_record.proofs.KeyOrder.{id_cmp_total, id_cmp-IsAntisymmetric, key_cmp_total, key_cmp-IsAntisymmetric}
+use Rattle.txn_key.proofs.KeyOrder.{id_cmp_total, id_cmp-IsAntisymmetric, key_cmp_total, key_cmp-IsAntisymmetric}
 use Rattle.store_trait.specs.Names.{name_cmp}
 use Rattle.store_trait.specs.declared.name.Name.{Name}
 use Rattle.store_trait.specs.declared.name.Name.TheVariants as name

@@ -4,7 +4,7 @@ use Rattle.std.specs.List.{list_any}
 use Rattle.std.specs.FinMap.{get, insert, remove}
 use Rattle.doc_value.specs.declared.value.Value.{Value}
 use Rattle.doc_update.specs.Updates.{updated}
-use Rattle.txn_record.specs.declared.id.Token.{Token}
+use Rattle.txn_key.specs.declared.id.Token.{Token}
 use Rattle.txn_record.specs.declared.record.Record.{Record}
 use Rattle.txn_record.specs.declared.state.State.{State}
 use Rattle.store_trait.specs.Names.{same_id, same_state, may_stand, may_hold}

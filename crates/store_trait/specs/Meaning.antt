@@ -2,8 +2,9 @@ use Rattle.std.specs.Prelude.{nat_le, ℤ, unsigned_abs, Option, Some, None, unw
 use Rattle.std.specs.List.{filter_map, flat_map}
 use Rattle.std.specs.FinMap.{entries, from_entries}
 use Rattle.doc_value.specs.declared.value.Value.{Value}
-use Rattle.txn_record.specs.Documents.{Docs, effect}
-use Rattle.txn_record.specs.declared.key.Key.{Key}
+use Rattle.txn_key.specs.Documents.{Docs}
+use Rattle.txn_key.specs.declared.key.Key.{Key}
+use Rattle.txn_record.specs.Effects.{effect}
 use Rattle.txn_record.specs.declared.op.Op.{Op}
 use Rattle.txn_record.specs.declared.record.Record.{Record}
 use Rattle.txn_record.specs.declared.state.State.TheVariants as state

@@ -2,9 +2,10 @@ use Rattle.std.specs.Prelude.{Option, Some, None, Bool, true, false, ◌==◌}
 use Rattle.std.specs.Str.{bytes_eq}
 use Rattle.std.specs.declared.cmp.Ordering.{Ordering}
 use Rattle.std.specs.declared.cmp.Ordering.TheVariants.{Less, Equal, Greater}
-use Rattle.txn_record.specs.Keys.{id_cmp, key_cmp}
+use Rattle.txn_key.specs.Ids.{id_cmp}
+use Rattle.txn_key.specs.Keys.{key_cmp}
+use Rattle.txn_key.specs.declared.id.TxnId.{TxnId}
 use Rattle.txn_record.specs.States.{state_number}
-use Rattle.txn_record.specs.declared.id.TxnId.{TxnId}
 use Rattle.txn_record.specs.declared.state.State.{State}
 use Rattle.store_trait.specs.declared.name.Name.{Name}
 use Rattle.store_trait.specs.declared.name.Name.TheVariants as name

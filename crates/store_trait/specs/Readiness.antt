@@ -1,10 +1,10 @@
 use Rattle.std.specs.Prelude.{◌≡◌, ◌≢◌, ℕ, true, false, Some, List, [], ◌∷◌, ◌⊎◌}
 use Rattle.std.specs.declared.cmp.Ordering.TheVariants.{Less}
-use Rattle.txn_record.specs.Keys.{id_cmp}
+use Rattle.txn_key.specs.Ids.{id_cmp}
+use Rattle.txn_key.specs.declared.id.TxnId.{TxnId}
+use Rattle.txn_key.specs.declared.id.Token.{Token}
+use Rattle.txn_key.specs.declared.key.Key.{Key}
 use Rattle.txn_record.specs.Walks.{Leads}
-use Rattle.txn_record.specs.declared.id.TxnId.{TxnId}
-use Rattle.txn_record.specs.declared.id.Token.{Token}
-use Rattle.txn_record.specs.declared.key.Key.{Key}
 use Rattle.store_trait.specs.View.{View, decided, settled, valid_nonce}
 
 abbrev pub token : TxnId → ℕ → Token

@@ -1,10 +1,10 @@
 use Rattle.std.specs.Prelude.{◌≡◌, ℕ, ◌<◌, Bool, true, false, ◌&&◌, not, IsTrue, IfSome, Some, is_some, unwrap_or, option_map, option_to_list, List, [], ◌++◌}
 use Rattle.std.specs.FinMap.{get}
-use Rattle.txn_record.specs.Documents.{changes_fit}
+use Rattle.txn_key.specs.declared.id.TxnId.{TxnId}
+use Rattle.txn_key.specs.declared.id.Token.{Token}
+use Rattle.txn_key.specs.declared.key.Key.{Key}
+use Rattle.txn_record.specs.Effects.{changes_fit}
 use Rattle.txn_record.specs.Revnos.{follows, stays_within, is_within, is_present, is_on_chain}
-use Rattle.txn_record.specs.declared.id.TxnId.{TxnId}
-use Rattle.txn_record.specs.declared.id.Token.{Token}
-use Rattle.txn_record.specs.declared.key.Key.{Key}
 use Rattle.txn_record.specs.declared.record.Record.{Record}
 use Rattle.txn_record.specs.declared.state.State.{State}
 use Rattle.txn_record.specs.declared.state.State.TheVariants as state

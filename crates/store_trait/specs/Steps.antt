@@ -1,5 +1,5 @@
 use Rattle.std.specs.Prelude.{◌≡◌, ℕ, true, false, Some, [], ◌∷◌}
-use Rattle.txn_record.specs.Documents.{effect, tests}
+use Rattle.txn_record.specs.Effects.{effect, tests}
 use Rattle.txn_record.specs.declared.record.Record.{Record}
 use Rattle.store_trait.specs.Contents.{Content}
 use Rattle.store_trait.specs.Soundness.{IsSound}

@@ -5,7 +5,8 @@ use crate::name::Name;
 use doc_value::{OutOfMemory, Value};
 use sqlite_items::Items;
 use std::alloc::Global;
-use txn_record::{Record, Token};
+use txn_key::Token;
+use txn_record::Record;
 
 /// The tokens that wait on a key, the oldest first.
 pub type Tokens = Items<Token>;

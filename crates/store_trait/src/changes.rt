@@ -16,7 +16,8 @@ use doc_update::Update;
 use doc_value::OutOfMemory;
 use sqlite_items::Items;
 use std::alloc::Global;
-use txn_record::{Record, State, Token};
+use txn_key::Token;
+use txn_record::{Record, State};
 
 /// What an edit came to: nothing where it missed, a cell under its name, or none there.
 #[derive(Drop)]

@@ -5,7 +5,8 @@ use doc_update::Update;
 use doc_value::OutOfMemory;
 use sqlite_items::Items;
 use std::alloc::Global;
-use txn_record::{Record, State, Token};
+use txn_key::Token;
+use txn_record::{Record, State};
 
 /// A change of one cell, made only where its guard holds.
 #[derive(Drop)]

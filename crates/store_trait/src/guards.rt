@@ -1,8 +1,8 @@
 ghost use Rattle.std.specs.Prelude.{◌≡◌, ℕ, ℤ, List, Option, is_some};
 ghost use Rattle.std.specs.Option.{option_copied};
 ghost use Rattle.store_trait.specs.Names.{same_id, same_state, may_stand};
+ghost use Rattle.txn_key.specs.declared.id.Token.{Token as TokenValue};
 ghost use Rattle.txn_record.specs.declared.state.State.{State as StateValue};
-ghost use Rattle.txn_record.specs.declared.id.Token.{Token as TokenValue};
 ghost use Rattle.store_trait.specs.Edits.{same_token, has_token, is_updatable, hit, hit_insert_record, hit_move, hit_add_token, hit_doc_update, hit_update, hit_draw_nonce, hit_place};
 
 use crate::cell::{Cell, DocCell};
@@ -10,7 +10,8 @@ use crate::edit::Edit;
 use crate::name::Name;
 use doc_apply::fits;
 use doc_update::Update;
-use txn_record::{Record, State, Token, TxnId};
+use txn_key::{Token, TxnId};
+use txn_record::{Record, State};
 
 /// Whether an edit hits the cell that stands under a name, if one does.
 pub fn hits(name: &Name, edit: &Edit, cell: Option<&Cell>) -> bool

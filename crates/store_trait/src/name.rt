@@ -6,7 +6,7 @@ ghost use Rattle.store_trait.specs.Names.{name_cmp};
 use doc_value::OutOfMemory;
 use std::alloc::Global;
 use std::cmp::Ordering;
-use txn_record::{Key, TxnId};
+use txn_key::{Key, TxnId};
 
 /// What a cell stands under. Names are ordered by kind as listed here, then by id or key.
 #[derive(Drop)]

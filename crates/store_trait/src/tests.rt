@@ -6,7 +6,7 @@ use doc_value::{DocId, Fields, OutOfMemory, Text, Value};
 use sqlite_items::Items;
 use std::alloc::Global;
 use std::test::Fail;
-use txn_record::{Key, TxnId};
+use txn_key::{Key, TxnId};
 
 fn doc_name(alloc: Global, id: i64) -> Result<Name, OutOfMemory> {
     let c = Text::from_str(alloc, "k")?;

@@ -1,6 +1,6 @@
 -- The Run of a batch: from the listing of its base to the end of its calls.
 use Rattle.std.proofs.Common.{◌≡◌, ℕ, Bool, List, [], ◌∷◌, ◌++◌, Result, Ok, Err, IfOk, IsTrue, sym, ap, ◌∙◌, subst, arith, length}
-use Rattle.txn_record.specs.Documents.{Docs}
+use Rattle.txn_key.specs.Documents.{Docs}
 use Rattle.store_trait.specs.Calls.{CallsGoOn}
 use Rattle.store_trait.specs.Contents.{Content}
 use Rattle.store_trait.specs.Meaning.{meaning}

@@ -4,12 +4,12 @@ use Rattle.std.proofs.lemmas.Bool.{and_parts}
 use Rattle.std.proofs.lemmas.Slice.Eq.{bytes_eq-Decides}
 use Rattle.std.proofs.lemmas.List.{append_assoc, append-nil, drop_more}
 use Rattle.std.proofs.Math.ListN.{drop_of_length-le, get_or}
-use Rattle.txn_record.specs.Documents.{after}
+use Rattle.txn_key.specs.declared.id.TxnId.{TxnId}
+use Rattle.txn_record.specs.Orders.{after}
 use Rattle.txn_record.specs.States.{is_chosen_state, is_settled_state}
 use Rattle.txn_record.specs.declared.entry.Entry.{Entry}
 use Rattle.txn_record.specs.declared.entry.Outcome.{Outcome}
 use Rattle.txn_record.specs.declared.entry.Outcome.TheVariants as outcome
-use Rattle.txn_record.specs.declared.id.TxnId.{TxnId}
 use Rattle.txn_record.specs.declared.record.Record.{Record}
 use Rattle.txn_record.specs.declared.state.State.{State}
 use Rattle.txn_record.specs.declared.state.State.TheVariants as state

@@ -12,12 +12,12 @@ use Rattle.std.proofs.lemmas.Bool.{true≢false}
 use Rattle.std.proofs.lemmas.Cmp.{tied_itself}
 use Rattle.std.proofs.lemmas.Option.{same_Some}
 use Rattle.doc_value.specs.declared.value.Value.{Value}
-use Rattle.txn_record.proofs.KeyOrder.{key_cmp_total, key_cmp-IsAntisymmetric}
-use Rattle.txn_record.specs.Documents.{Docs}
-use Rattle.txn_record.specs.Keys.{key_cmp}
-use Rattle.txn_record.specs.declared.docs.Doc.{Doc}
-use Rattle.txn_record.specs.declared.id.TxnId.{TxnId}
-use Rattle.txn_record.specs.declared.key.Key.{Key}
+use Rattle.txn_key.proofs.KeyOrder.{key_cmp_total, key_cmp-IsAntisymmetric}
+use Rattle.txn_key.specs.Documents.{Docs}
+use Rattle.txn_key.specs.Keys.{key_cmp}
+use Rattle.txn_key.specs.declared.docs.Doc.{Doc}
+use Rattle.txn_key.specs.declared.id.TxnId.{TxnId}
+use Rattle.txn_key.specs.declared.key.Key.{Key}
 use Rattle.store_trait.proofs.NameOrder.{name_cmp_total, name_cmp-IsAntisymmetric}
 use Rattle.store_trait.specs.Calls.{CallsGoOn, OneCall}
 use Rattle.store_trait.specs.Cells.{as_doc}

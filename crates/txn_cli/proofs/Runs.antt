@@ -1,6 +1,7 @@
 -- The Runs of a call while calls are made.
 use Rattle.std.proofs.Common.{◌≡◌, ℕ, ◌≤◌, List, [], ◌∷◌, ◌++◌, true, sym, ap, ◌∙◌, subst, arith}
-use Rattle.txn_record.specs.Documents.{Docs, after, legal}
+use Rattle.txn_key.specs.Documents.{Docs}
+use Rattle.txn_record.specs.Orders.{after, legal}
 use Rattle.txn_record.specs.declared.entry.Entry.{Entry}
 use Rattle.store_trait.specs.Contents.{Content}
 use Rattle.store_trait.specs.Meaning.{meaning}

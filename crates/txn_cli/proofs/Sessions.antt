@@ -6,8 +6,8 @@ use Rattle.std.specs.Option.{option_and_then}
 use Rattle.std.proofs.lemmas.Bool.{and_parts}
 use Rattle.std.proofs.lemmas.Slice.Eq.{bytes_eq-Decides}
 use Rattle.doc_value.specs.declared.value.Value.{Value}
-use Rattle.txn_record.specs.declared.id.TxnId.{TxnId}
-use Rattle.txn_record.specs.declared.key.Key.{Key}
+use Rattle.txn_key.specs.declared.id.TxnId.{TxnId}
+use Rattle.txn_key.specs.declared.key.Key.{Key}
 use Rattle.txn_record.specs.declared.op.Op.{Op}
 use Rattle.store_trait.specs.Calls.{CallsGoOn}
 use Rattle.store_trait.specs.Cells.{as_record}

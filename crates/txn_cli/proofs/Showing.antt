@@ -1,7 +1,7 @@
 -- What a statement does, and what it prints.
 use Rattle.std.proofs.Common.{◌≡◌, ℕ, true, List, ◌++◌, refl, sym, ap, ◌∙◌}
 use Rattle.std.proofs.lemmas.List.{append_assoc}
-use Rattle.txn_record.specs.Documents.{Docs}
+use Rattle.txn_key.specs.Documents.{Docs}
 use Rattle.store_trait.specs.Contents.{Content}
 use Rattle.store_trait.specs.Meaning.{meaning, bodies}
 use Rattle.txn_cli.specs.Play.{Does, RunsWaiting}

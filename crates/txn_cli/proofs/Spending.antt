@@ -5,7 +5,7 @@ use Rattle.std.specs.Option.{option_and_then}
 use Rattle.std.specs.Ordering.{eq_by_cmp}
 use Rattle.std.proofs.lemmas.List.{length-append}
 use Rattle.doc_value.specs.declared.value.Value.{Value}
-use Rattle.txn_record.specs.declared.key.Key.{Key}
+use Rattle.txn_key.specs.declared.key.Key.{Key}
 use Rattle.store_trait.proofs.NameOrder.{name_cmp_total}
 use Rattle.store_trait.specs.Cells.{as_counter, as_doc}
 use Rattle.store_trait.specs.Contents.{Content}

@@ -1,10 +1,10 @@
 use Rattle.std.specs.Prelude.{◌≡◌, ℕ, Bool, true, IsTrue, Some, None, if◌then◌else◌}
 use Rattle.std.specs.FinMap.{get}
 use Rattle.std.specs.declared.cmp.Ordering.TheVariants.{Less}
-use Rattle.txn_record.specs.Documents.{Docs, IsPast}
-use Rattle.txn_record.specs.Keys.{key_cmp}
-use Rattle.txn_record.specs.declared.docs.Doc.{Doc}
-use Rattle.txn_record.specs.declared.key.Key.{Key}
+use Rattle.txn_key.specs.Documents.{Docs, IsPast}
+use Rattle.txn_key.specs.Keys.{key_cmp}
+use Rattle.txn_key.specs.declared.docs.Doc.{Doc}
+use Rattle.txn_key.specs.declared.key.Key.{Key}
 use Rattle.store_trait.specs.Calls.{CallsGoOn}
 use Rattle.store_trait.specs.Contents.{Content, is_past}
 use Rattle.store_trait.specs.declared.cell.Cell.{Cell}

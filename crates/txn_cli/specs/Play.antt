@@ -2,8 +2,8 @@ use Rattle.std.specs.Prelude.{◌≡◌, ℕ, zero, suc, ◌+◌, ◌&&◌, Bool
 use Rattle.std.specs.FinMap.{insert}
 use Rattle.std.specs.List.{list_all}
 use Rattle.doc_value.specs.declared.value.Value.{Value}
-use Rattle.txn_record.specs.Documents.{after, legal}
-use Rattle.txn_record.specs.declared.id.TxnId.{TxnId}
+use Rattle.txn_key.specs.declared.id.TxnId.{TxnId}
+use Rattle.txn_record.specs.Orders.{after, legal}
 use Rattle.store_trait.specs.Contents.{Content}
 use Rattle.store_trait.specs.Meaning.{meaning}
 use Rattle.store_trait.specs.Soundness.{IsSound}

@@ -1,6 +1,6 @@
 -- The Runs of a call, one after another.
 use Rattle.std.specs.Prelude.{◌≡◌, ◌+◌, ◌⊎◌, true, ℕ, List, [], ◌∷◌, ◌++◌}
-use Rattle.txn_record.specs.Documents.{after, legal}
+use Rattle.txn_record.specs.Orders.{after, legal}
 use Rattle.store_trait.specs.Contents.{Content}
 use Rattle.store_trait.specs.History.{IsFaithful}
 use Rattle.txn_runner.specs.Running.{HasRun}

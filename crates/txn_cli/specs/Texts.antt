@@ -7,10 +7,10 @@ use Rattle.doc_value.specs.Printing.{compact}
 use Rattle.doc_value.specs.declared.value.Value.{Value}
 use Rattle.doc_value.specs.declared.doc_id.DocId.{DocId}
 use Rattle.doc_value.specs.declared.doc_id.DocId.TheVariants as doc_id
-use Rattle.txn_record.specs.Documents.{Docs}
-use Rattle.txn_record.specs.Ids.{id_text, token_text}
-use Rattle.txn_record.specs.declared.id.TxnId.{TxnId}
-use Rattle.txn_record.specs.declared.key.Key.{Key}
+use Rattle.txn_key.specs.Documents.{Docs}
+use Rattle.txn_key.specs.Ids.{id_text, token_text}
+use Rattle.txn_key.specs.declared.id.TxnId.{TxnId}
+use Rattle.txn_key.specs.declared.key.Key.{Key}
 use Rattle.txn_record.specs.declared.state.State.{State}
 use Rattle.txn_record.specs.declared.state.State.TheVariants as state
 use Rattle.txn_cli.specs.declared.fault.Fault.{Fault}

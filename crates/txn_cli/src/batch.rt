@@ -9,7 +9,8 @@ use doc_value::OutOfMemory;
 use std::alloc::Global;
 use std::collections::BTreeSet;
 use std::marker::Model;
-use txn_record::{Ops, TxnId};
+use txn_key::TxnId;
+use txn_record::Ops;
 use txn_runner::Waiting;
 
 /// The most transactions that may wait.

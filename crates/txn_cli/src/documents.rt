@@ -2,7 +2,7 @@
 
 ghost use Rattle.std.specs.Prelude.{◌≡◌, ◌++◌, IsTrue, IfOk, OnOk, IfErr, IsErrOf};
 ghost use Rattle.std.specs.List.{flat_map};
-ghost use Rattle.txn_record.specs.Documents.{pairs_of};
+ghost use Rattle.txn_key.specs.Documents.{pairs_of};
 ghost use Rattle.store_trait.specs.Calls.{CallsGoOn, OneCall, Rose};
 ghost use Rattle.store_trait.specs.Contents.{Content};
 ghost use Rattle.store_trait.specs.Meaning.{bodies};
@@ -19,7 +19,7 @@ use doc_value::OutOfMemory;
 use std::alloc::Global;
 use store_laws::bodies_as_they_lie;
 use store_trait::{Cell, Name, Named, Store, StoreError};
-use txn_record::{Doc, Docs, TxnId, documents_rise};
+use txn_key::{Doc, Docs, TxnId, documents_rise};
 use txn_runner::StepError;
 
 /// Prints the documents of the store, in the order of their keys.

@@ -1,6 +1,7 @@
 use crate::fault::Fault;
 use sqlite_items::Items;
-use txn_record::{Docs, Entry};
+use txn_key::Docs;
+use txn_record::Entry;
 
 /// What one batch made: the documents that it began with, the order in which its transactions were
 /// decided, and the store calls that were made before it.

@@ -11,7 +11,7 @@ ghost use Rattle.txn_runner.specs.Settling.{MayStop};
 use doc_value::Text;
 use std::alloc::{AllocError, Global};
 use store_trait::StoreError;
-use txn_record::TxnId;
+use txn_key::TxnId;
 use txn_runner::StepError;
 use txn_script::ScriptFault;
 

@@ -17,7 +17,8 @@ use doc_value::Value;
 use sqlite_items::Items;
 use std::alloc::Global;
 use store_trait::{Cell, DocCell, Edit, Name, Store, StoreError};
-use txn_record::{Key, Ops, TxnId};
+use txn_key::{Key, TxnId};
+use txn_record::Ops;
 use txn_runner::only;
 
 /// Places a document at revision number 0, where its key has none; answers whether it did.

@@ -7,7 +7,8 @@ ghost use Rattle.txn_cli.specs.Texts.{document_line, id_json, state_line, state_
 use crate::fault::Fault;
 use doc_value::{DocId, OutOfMemory, Value, push_text, push_value};
 use std::alloc::Global;
-use txn_record::{Doc, Key, Outcome, Token, TxnId};
+use txn_key::{Doc, Key, Token, TxnId};
+use txn_record::Outcome;
 use txn_runner::StepError;
 
 /// A document's line: its collection and id as JSON, and its body, with blanks between.

@@ -19,7 +19,8 @@ use crate::places::{may_wait, place_document};
 use doc_value::Value;
 use std::alloc::Global;
 use store_trait::Store;
-use txn_record::{Key, Ops, TxnId};
+use txn_key::{Key, TxnId};
+use txn_record::Ops;
 use txn_runner::is_built;
 use txn_script::Statement;
 

@@ -1,21 +1,21 @@
 -- Chains follow their operations, begin at the keys' first numbers, and stay within the limit.
 use Rattle.std.proofs.Common.{◌≡◌, ℕ, zero, suc, ◌+◌, ◌≤◌, Bool, true, false, cond, ◌&&◌, ◌||◌, T, List, [], ◌∷◌, length, map, Option, Some, None, option_map, unwrap_or, ℤ, negsuc, unsigned_abs, int_eq, nat_le, refl, sym, ap, ◌∙◌, subst, arith, if◌then◌else◌}
-use Rattle.std.specs.FinMap.{get, insert, entries, empty, entries_sorted, get-from_sorted, get-insert}
-use Rattle.std.specs.FinMap.Entries.{find, is_sorted, below_all}
+use Rattle.std.specs.FinMap.{get, insert, get-from_sorted, get-insert}
+use Rattle.std.specs.FinMap.Entries.{find}
 use Rattle.std.specs.List.{list_all, list_any, zip}
-use Rattle.std.specs.Ordering.{is_lt, is_eq}
+use Rattle.std.specs.Ordering.{is_eq}
 use Rattle.std.specs.Cmp.{tied_itself, Equal-is}
 use Rattle.std.proofs.lemmas.Bool.{and_parts}
 use Rattle.std.proofs.lemmas.Bool.Decides.{Decides-int_eq, nat_tests}
+use Rattle.txn_key.proofs.KeyOrder.{key_cmp_total, key_cmp-IsAntisymmetric}
+use Rattle.txn_key.proofs.KeyPlaces.{rise_zip}
+use Rattle.txn_key.proofs.KeySets.{distinct_rise}
+use Rattle.txn_key.specs.Keys.{key_cmp, same_key}
+use Rattle.txn_key.specs.declared.key.Key.{Key}
 use Rattle.txn_record.proofs.ChainSteps.{among_keys}
-use Rattle.txn_record.proofs.KeyOrder.{key_cmp_total, key_cmp-IsAntisymmetric}
-use Rattle.txn_record.proofs.KeyPlaces.{rise_zip}
 use Rattle.txn_record.proofs.NumberSizes.{grows_by_one}
-use Rattle.txn_record.specs.Chain.{Numbers, with_keys, keys_of, has_key, numbers_of, number_at, numbers_after_op, found_by, has_room}
-use Rattle.txn_record.specs.Keys.{key_cmp}
-use Rattle.txn_record.specs.Places.{below_each, keys_rise}
-use Rattle.txn_record.specs.Revnos.{number_after, same_key, first_on, follows, is_within, stays_within}
-use Rattle.txn_record.specs.declared.key.Key.{Key}
+use Rattle.txn_record.specs.Chain.{Numbers, keys_of, has_key, numbers_of, number_at, numbers_after_op, found_by, has_room}
+use Rattle.txn_record.specs.Revnos.{number_after, first_on, follows, is_within, stays_within}
 use Rattle.txn_record.specs.declared.op.Op.{Op}
 
 same_key_is : (a b : Key) → same_key a b ≡ true → a ≡ b
@@ -72,26 +72,11 @@ follows_found (op ∷ ops) numbers = (λ i. here i && follows_found ops (numbers
 
 -- ---- the numbers that a chain begins at
 
-below_keys : (key : Key) (es : List (Key × Unit {0})) → below_all key_cmp key es ≡ below_each key (map (λ (e : Key × Unit {0}). e.0) es)
-below_keys key [] = refl
-below_keys key (e ∷ es) = ap (λ (b : Bool). is_lt (key_cmp key e.0) && b) (below_keys key es)
-
-entries_rise : (es : List (Key × Unit {0})) → is_sorted key_cmp es ≡ keys_rise (map (λ (e : Key × Unit {0}). e.0) es)
-entries_rise [] = refl
-entries_rise (e ∷ es) = λ i. below_keys e.0 es i && entries_rise es i
-
-is_true : (b : Bool) → T b → b ≡ true
-is_true true h = refl
-is_true false h = absurd h
-
 from_true : (b : Bool) → b ≡ true → T b
 from_true b e = subst T (sym e) tt
 
-pub keys_of_rise : (ops : List Op) → keys_rise (keys_of ops) ≡ true
-keys_of_rise ops = sym (entries_rise (entries (with_keys ops empty))) ∙ is_true _ (entries_sorted (with_keys ops empty))
-
 found_in : (key : Key) (ops : List Op) (first : List ℤ) → number_at key (numbers_of ops first) ≡ unwrap_or (find key_cmp key (zip (keys_of ops) first)) (negsuc 0)
-found_in key ops first = ap (λ (o : Option ℤ). unwrap_or o (negsuc 0)) (get-from_sorted key_cmp (zip (keys_of ops) first) key (from_true _ (rise_zip (keys_of ops) first (keys_of_rise ops))))
+found_in key ops first = ap (λ (o : Option ℤ). unwrap_or o (negsuc 0)) (get-from_sorted key_cmp (zip (keys_of ops) first) key (from_true _ (rise_zip (keys_of ops) first (distinct_rise (map (λ (op : Op). op.key) ops)))))
 
 find_own : (key : Key) (number : Key → ℤ) (ks : List Key) → list_any (same_key key) ks ≡ true → find key_cmp key (zip ks (map number ks)) ≡ Some (number key)
 find_own key number [] h = cc h

@@ -1,29 +1,24 @@
 -- Numbers at the places of keys, and the map that they stand for.
-use Rattle.std.proofs.Common.{◌≡◌, ℕ, zero, suc, ◌+◌, ◌<◌, Bool, true, false, cond, ◌||◌, T, List, [], ◌∷◌, ◌++◌, length, get_or, map, set, drop, Option, Some, None, is_some, unwrap_or, ℤ, negsuc, refl, sym, ap, ◌∙◌, subst, arith}
+use Rattle.std.proofs.Common.{◌≡◌, ℕ, zero, suc, ◌+◌, ◌<◌, Bool, true, false, ◌||◌, T, List, [], ◌∷◌, ◌++◌, length, get_or, map, set, drop, Option, unwrap_or, ℤ, negsuc, refl, sym, ap, ◌∙◌, subst, arith}
 use Rattle.std.proofs.lemmas.List.{at_drop_more, append_assoc}
-use Rattle.std.proofs.lemmas.List.Sorted.{list_any-IsPermutation}
-use Rattle.std.specs.List.Sorted.{IsPermutation}
-use Rattle.std.specs.FinMap.{same_map, get, insert, entries, empty, contains_key, values, same_entries_map, entries-insert, get-from_sorted, get-insert, contains_key-keys}
+use Rattle.std.specs.FinMap.{insert, entries, values, same_entries_map, entries-insert, get-from_sorted}
 use Rattle.std.specs.FinMap.Entries.{put}
 use Rattle.std.specs.List.{All, list_any, zip}
 use Rattle.std.specs.Ordering.{is_eq}
 use Rattle.std.specs.Cmp.{tied_itself}
-use Rattle.txn_record.proofs.KeyOrder.{key_cmp_total, key_cmp-IsAntisymmetric}
-use Rattle.txn_record.proofs.KeyPlaces.{rise_zip, found_at, put_at}
-use Rattle.txn_record.proofs.SortedEntries.{entries_of_sorted}
-use Rattle.txn_record.specs.Chain.{KeySet, Numbers, with_keys, keys_of, has_key, numbers_at, number_at, numbers_after_op, numbers_after, found_by}
-use Rattle.txn_record.specs.Keys.{key_cmp}
-use Rattle.txn_record.specs.Places.{StandsAt, keys_rise}
-use Rattle.txn_record.specs.Revnos.{number_after, same_key}
-use Rattle.txn_record.specs.declared.key.Key.{Key}
+use Rattle.txn_key.proofs.KeyOrder.{key_cmp_total}
+use Rattle.txn_key.proofs.KeyPlaces.{rise_zip, found_at, put_at}
+use Rattle.txn_key.proofs.KeySets.{among_distinct}
+use Rattle.txn_key.proofs.SortedEntries.{entries_of_sorted}
+use Rattle.txn_key.specs.Keys.{key_cmp, same_key}
+use Rattle.txn_key.specs.Places.{StandsAt, keys_rise}
+use Rattle.txn_key.specs.declared.key.Key.{Key}
+use Rattle.txn_record.specs.Chain.{Numbers, keys_of, has_key, numbers_at, number_at, numbers_after_op, numbers_after, found_by}
+use Rattle.txn_record.specs.Revnos.{number_after}
 use Rattle.txn_record.specs.declared.op.Op.{Op}
 
 from_true : (b : Bool) → b ≡ true → T b
 from_true b e = subst T (sym e) tt
-
-to_true : (b : Bool) → T b → b ≡ true
-to_true true h = refl
-to_true false h = absurd h
 
 either_right : (a b : Bool) → b ≡ true → (a || b) ≡ true
 either_right true b p = refl
@@ -36,40 +31,12 @@ get_or_any (x ∷ xs) (suc i) d e within = get_or_any xs i d e (omega arith)
 
 -- ---- the keys of operations
 
-contains-with_keys : (key : Key) (ops : List Op) (set : KeySet) → contains_key (with_keys ops set) key ≡ (has_key key ops || contains_key set key)
-contains-with_keys key [] set = refl
-contains-with_keys key (op ∷ ops) set =
-    contains-with_keys key ops (insert set op.key tt) ∙ ap (λ (o : Option (Unit {0})). has_key key ops || is_some o) (get-insert key_cmp_total set op.key tt key)
-    ∙ by (same_key key op.key) (has_key key ops) (get set key)
-  where
-    by : (same later : Bool) (o : Option (Unit {0})) → (later || is_some (cond same (Some tt) o)) ≡ (same || later || is_some o)
-    by true true o = refl
-    by true false o = refl
-    by false later o = refl
-
-pub among_keys : (key : Key) (ops : List Op) → has_key key ops ≡ true → list_any (same_key key) (keys_of ops) ≡ true
-among_keys key ops h =
-    sym (contains_key-keys (with_keys ops empty) key) ∙ contains-with_keys key ops empty ∙ ap (λ (b : Bool). b || contains_key (empty {X = Unit {0}} {R = key_cmp}) key) h
-
-has_key-list_any : (key : Key) (ops : List Op) → has_key key ops ≡ list_any (λ (op : Op). same_key key op.key) ops
+has_key-list_any : (key : Key) (ops : List Op) → list_any (same_key key) (map (λ (op : Op). op.key) ops) ≡ has_key key ops
 has_key-list_any key [] = refl
 has_key-list_any key (op ∷ ops) = ap (λ (b : Bool). same_key key op.key || b) (has_key-list_any key ops)
 
-alike : (a b : Option (Unit {0})) → is_some a ≡ is_some b → a ≡ b
-alike None None e = refl
-alike None (Some u) e = cc e
-alike (Some t) None e = cc e
-alike (Some t) (Some u) e = refl
-
--- the order of operations makes no difference to their keys
-pub same_keys : (ops others : List Op) → IsPermutation ops others → with_keys others empty ≡ with_keys ops empty
-same_keys ops others moved = same_map key_cmp_total key_cmp-IsAntisymmetric _ _ each
-  where
-    has : (key : Key) → has_key key others ≡ has_key key ops
-    has key = has_key-list_any key others ∙ sym (list_any-IsPermutation (λ (op : Op). same_key key op.key) ops others moved) ∙ sym (has_key-list_any key ops)
-
-    each : (key : Key) → get (with_keys others empty) key ≡ get (with_keys ops empty) key
-    each key = alike _ _ (contains-with_keys key others empty ∙ ap (λ (b : Bool). b || contains_key (empty {X = Unit {0}} {R = key_cmp}) key) (has key) ∙ sym (contains-with_keys key ops empty))
+pub among_keys : (key : Key) (ops : List Op) → has_key key ops ≡ true → list_any (same_key key) (keys_of ops) ≡ true
+among_keys key ops h = among_distinct key (map (λ (op : Op). op.key) ops) ∙ has_key-list_any key ops ∙ h
 
 pub has_own_key : (ops : List Op) (i : ℕ) (op : Op) → i < length ops → op ≡ get_or ops i op → has_key op.key ops ≡ true
 has_own_key [] i op within is = absurd (omega arith)

@@ -1,16 +1,9 @@
 pub mod SoundReading
 pub mod ReadingLaws
-pub mod KeyOrder
 pub mod ReadBack
 pub mod ChainLaws
 pub mod NumberSizes
 pub mod ChainSteps
-pub mod KeyPlaces
-pub mod KeySets
-pub mod TokenTexts
-pub mod SortedEntries
-pub mod DocLists
-pub mod DocumentLaws
+pub mod EffectLaws
 pub mod OrderLaws
 pub mod WalkLaws
-pub mod RisingKeys

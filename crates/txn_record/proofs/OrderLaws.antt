@@ -3,7 +3,9 @@ use Rattle.std.proofs.Common.{◌≡◌, Bool, true, false, ◌&&◌, ◌||◌, 
 use Rattle.std.specs.Cmp.Lexicographic.{nat_list_eq_equiv}
 use Rattle.std.specs.Str.{bytes_eq}
 use Rattle.std.proofs.lemmas.Bool.{and_parts, true≢false}
-use Rattle.txn_record.specs.Documents.{Docs, tests, outcome_effect, after, is_right, outcomes_right, has_entry, ids_distinct, legal}
+use Rattle.txn_key.specs.Documents.{Docs}
+use Rattle.txn_record.specs.Effects.{tests}
+use Rattle.txn_record.specs.Orders.{outcome_effect, after, is_right, outcomes_right, has_entry, ids_distinct, legal}
 use Rattle.txn_record.specs.declared.entry.Entry.{Entry}
 
 pub after-push : (base : Docs) (entries : List Entry) (entry : Entry) → after base (entries ++ entry ∷ []) ≡ outcome_effect entry.outcome entry.ops (after base entries)

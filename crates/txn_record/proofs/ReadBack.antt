@@ -16,15 +16,15 @@ use Rattle.doc_value.specs.declared.value.Named.{Named}
 use Rattle.doc_value.specs.declared.value.Value.{Value, Bool as Truth, Int, Text, List as Items_of, Object, out-Value, map-Value, para-Value, para-roll-Value, the_lemmas}
 use Rattle.doc_value.specs.declared.value.Value.TheOpen.{Value-F}
 use Rattle.doc_value.specs.declared.value.Value.TheViews.{roll-out-Value}
-use Rattle.txn_record.specs.Operations.{holds_byte, is_collection, collection_of, doc_id_of, key_with}
+use Rattle.txn_key.specs.Reading.{holds_byte, is_collection, collection_of, doc_id_of, key_with}
 use Rattle.txn_record.specs.Printing.{id_value, assert_value, insert_value, remove_value, update_value, field_of, op_fields, op_value, ops_value}
 use Rattle.txn_record.specs.Reading.{collection_field, id_field, assert_field, insert_field, update_field, remove_field, are_fields, has_form, is_text, is_truth, is_true, is_there, if_there, is_the_text, is_empty_text, is_null, is_missing_or_absent, is_too_deep, or_bad_key, key_of, has_only_fields, has_several_changes, fault_of_parts, change_of, assert_of, or_bad_assert, or_bad_update, or_bad_insert, op_in, op_at, op_of_parts, op_of, unless_fault, ops_in, ops_of_list, ops_from, numbered, before}
 use Rattle.txn_record.specs.Transactions.{IsBody, IsTransaction, IsSoundOp, IsSoundAssert, IsSoundChange, is_doc_id, is_shallow, go_together, may_insert, asks}
 use Rattle.txn_record.specs.declared.fault.OpFault.{OpFault}
 use Rattle.std.specs.Str.{bytes_eq}
+use Rattle.txn_key.specs.declared.key.Key.{Key}
 use Rattle.txn_record.specs.declared.fault.OpFault.TheVariants.{BadOperation, KeyMissing, SeveralChanges, NothingSet, InsertAssert, TooDeep}
 use Rattle.txn_record.specs.declared.fault.OpsFault.TheVariants.{Empty, TooMany}
-use Rattle.txn_record.specs.declared.key.Key.{Key}
 use Rattle.txn_record.specs.declared.op.Assert.{Assert}
 use Rattle.txn_record.specs.declared.op.Assert.TheVariants as assertion
 use Rattle.txn_record.specs.declared.op.Change.{Change}

@@ -11,11 +11,11 @@ use Rattle.doc_value.specs.declared.doc_id.DocId.{DocId}
 use Rattle.doc_value.specs.declared.fault.BodyFault.{BodyFault}
 use Rattle.doc_value.specs.declared.value.Value.{Value, out-Value}
 use Rattle.doc_value.specs.declared.value.Value.TheOpen.{Value-F}
-use Rattle.txn_record.specs.Operations.{is_collection, is_text_id, collection_of, doc_id_of, key_with, key_in}
+use Rattle.txn_key.specs.Reading.{is_collection, is_text_id, collection_of, doc_id_of, key_with, key_in}
+use Rattle.txn_key.specs.declared.key.Key.{Key}
 use Rattle.txn_record.specs.Reading.{key_of, is_the_text, is_missing_or_absent, is_too_deep, fault_of_parts, change_of, assert_of, or_bad_insert, or_bad_update, or_bad_assert, is_empty_text, is_null}
 use Rattle.txn_record.specs.Transactions.{is_doc_id, is_shallow, InsertsBody, IsSoundAssert, IsSoundChange, IsSoundOp, go_together, may_insert, asks}
 use Rattle.txn_record.specs.declared.fault.OpFault.TheVariants.{SeveralChanges, NothingSet, InsertAssert, TooDeep}
-use Rattle.txn_record.specs.declared.key.Key.{Key}
 use Rattle.txn_record.specs.declared.op.Assert.{Assert}
 use Rattle.txn_record.specs.declared.op.Assert.TheVariants as assertion
 use Rattle.txn_record.specs.declared.op.Change.{Change}

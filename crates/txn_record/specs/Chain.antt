@@ -1,31 +1,18 @@
 -- The revision numbers that operations find and leave, run in order.
 use Rattle.std.specs.Prelude.{Bool, false, ◌||◌, nat_le, ℤ, negsuc, unsigned_abs, unwrap_or, map, List, [], ◌∷◌}
-use Rattle.std.specs.FinMap.{FinMap, get, insert, keys, empty, from_sorted}
+use Rattle.std.specs.FinMap.{FinMap, get, insert, from_sorted}
 use Rattle.std.specs.List.{zip}
-use Rattle.txn_record.specs.Keys.{key_cmp}
-use Rattle.txn_record.specs.Revnos.{number_after, same_key}
-use Rattle.txn_record.specs.declared.key.Key.{Key}
+use Rattle.txn_key.specs.KeySets.{distinct}
+use Rattle.txn_key.specs.Keys.{key_cmp, same_key}
+use Rattle.txn_key.specs.declared.key.Key.{Key}
+use Rattle.txn_record.specs.Revnos.{number_after}
 use Rattle.txn_record.specs.declared.op.Op.{Op}
 
 -- ---- the keys of operations
 
-abbrev pub KeySet : Type 0
-KeySet = FinMap key_cmp (Unit {0})
-
--- keys that rise, as entries with nothing at each, and the set of them
-abbrev pub marked : List Key → List (Key × Unit {0})
-marked keys = map (λ key. (key, tt)) keys
-
-abbrev pub set_of : List Key → KeySet
-set_of keys = from_sorted (marked keys)
-
-abbrev pub with_keys : List Op → KeySet → KeySet
-with_keys [] set = set
-with_keys (op ∷ ops) set = with_keys ops (insert set op.key tt)
-
 -- the distinct keys, in key order
 abbrev pub keys_of : List Op → List Key
-keys_of ops = keys (with_keys ops empty)
+keys_of ops = distinct (map (λ (op : Op). op.key) ops)
 
 abbrev pub has_key : Key → List Op → Bool
 has_key key [] = false

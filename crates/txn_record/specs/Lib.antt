@@ -1,12 +1,9 @@
 pub mod Transactions
 pub mod States
-pub mod Keys
-pub mod Ids
-pub mod Documents
-pub mod Operations
+pub mod Effects
+pub mod Orders
 pub mod Reading
 pub mod Printing
 pub mod Revnos
 pub mod Chain
-pub mod Places
 pub mod Walks

@@ -14,14 +14,14 @@ use Rattle.doc_value.specs.declared.fault.BodyFault.{BodyFault}
 use Rattle.doc_value.specs.declared.value.Named.{Named}
 use Rattle.doc_value.specs.declared.value.Value.{Value, out-Value}
 use Rattle.doc_value.specs.declared.value.Value.TheOpen.{Value-F}
-use Rattle.txn_record.specs.Operations.{key_in}
+use Rattle.txn_key.specs.Reading.{key_in}
+use Rattle.txn_key.specs.declared.key.Key.{Key}
 use Rattle.txn_record.specs.declared.fault.OpFault.{OpFault}
 use Rattle.txn_record.specs.declared.fault.OpFault.TheVariants.{BadOperation, KeyMissing, BadKey, SeveralChanges, NothingSet, InsertAssert, TooDeep, BadInsert, BadUpdate, BadAssert}
 use Rattle.txn_record.specs.declared.fault.OpsFault.{OpsFault}
 use Rattle.txn_record.specs.declared.fault.OpsFault.TheVariants.{NotList, Empty, TooMany, At}
 use Rattle.txn_record.specs.declared.fault.Refusal.{Refusal}
 use Rattle.txn_record.specs.declared.fault.Refusal.TheVariants.{Fault, OutOfMemory}
-use Rattle.txn_record.specs.declared.key.Key.{Key}
 use Rattle.txn_record.specs.declared.op.Assert.{Assert}
 use Rattle.txn_record.specs.declared.op.Assert.TheVariants as assertion
 use Rattle.txn_record.specs.declared.op.Change.{Change}

@@ -1,13 +1,10 @@
 use Rattle.std.specs.Prelude.{ℕ, Bool, true, false, ◌&&◌, ◌||◌, nat_le, ℤ, pos, ◌+ℤ◌, ◌-ℤ◌, neg_ℤ, int_lt, not, unsigned_abs, Option, Some, None, option_map, unwrap_or, List, [], ◌∷◌, if◌then◌else◌}
-use Rattle.std.specs.Ordering.{int_eq, is_eq}
-use Rattle.txn_record.specs.Keys.{key_cmp}
-use Rattle.txn_record.specs.declared.key.Key.{Key}
+use Rattle.std.specs.Ordering.{int_eq}
+use Rattle.txn_key.specs.Keys.{same_key}
+use Rattle.txn_key.specs.declared.key.Key.{Key}
 use Rattle.txn_record.specs.declared.op.Op.{Op}
 use Rattle.txn_record.specs.declared.op.Change.{Change}
 use Rattle.txn_record.specs.declared.op.Change.TheVariants as change
-
-abbrev pub same_key : Key → Key → Bool
-same_key a b = is_eq (key_cmp a b)
 
 -- a number of 0 or more says that the document is present
 abbrev pub is_present : ℤ → Bool

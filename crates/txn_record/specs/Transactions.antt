@@ -8,7 +8,7 @@ use Rattle.doc_value.specs.Nesting.{nesting}
 use Rattle.doc_value.specs.declared.doc_id.DocId.{DocId}
 use Rattle.doc_value.specs.declared.doc_id.DocId.TheVariants.{Text, Int}
 use Rattle.doc_value.specs.declared.value.Value.{Value}
-use Rattle.txn_record.specs.Operations.{is_collection, is_text_id}
+use Rattle.txn_key.specs.Reading.{is_collection, is_text_id}
 use Rattle.txn_record.specs.declared.op.Assert.{Assert}
 use Rattle.txn_record.specs.declared.op.Assert.TheVariants as assertion
 use Rattle.txn_record.specs.declared.op.Change.{Change}

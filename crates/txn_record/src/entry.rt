@@ -1,10 +1,10 @@
 ghost use Rattle.std.specs.Prelude.{◌≡◌, IfOk};
 
-use crate::id::TxnId;
 use crate::ops::Ops;
 use doc_value::OutOfMemory;
 use sqlite_items::Items;
 use std::alloc::Global;
+use txn_key::TxnId;
 
 /// Which way a transaction was decided.
 #[derive(Clone, Copy, Debug, PartialEq, Eq)]

@@ -1,75 +1,29 @@
 //! The distinct keys of operations, in key order.
-ghost use Rattle.std.specs.Prelude.{◌≡◌, ◌<◌, ◌≤◌, true, map, length, IfOk, IfErr, OnOk};
-ghost use Rattle.std.specs.FinMap.{insert};
-ghost use Rattle.std.specs.List.{list_any};
-ghost use Rattle.std.specs.List.Sorted.{IsPermutation};
-ghost use Rattle.txn_record.specs.Chain.{keys_of, set_of};
-ghost use Rattle.txn_record.specs.Places.{GoesAt, StandsAt, keys_rise};
-ghost use Rattle.txn_record.specs.Revnos.{same_key};
+ghost use Rattle.std.specs.Prelude.{◌≡◌, true, map, IfOk};
+ghost use Rattle.txn_key.specs.Places.{keys_rise};
+ghost use Rattle.txn_record.specs.Chain.{keys_of};
 
-use crate::key::Key;
 use crate::op::Op;
 use doc_value::OutOfMemory;
 use sqlite_items::Items;
 use std::alloc::Global;
+use txn_key::{Key, distinct_keys};
 
-/// The distinct keys of the operations, in key order. Sorted first, each new key goes to the end, so that no
-/// key moves.
-pub(crate) fn distinct_keys(alloc: Global, ops: &[Op]) -> Result<Items<Key>, OutOfMemory>
+/// The distinct keys of the operations, in key order.
+pub(crate) fn keys_of(alloc: Global, ops: &[Op]) -> Result<Items<Key>, OutOfMemory>
     ensures all { IfOk result (λ keys. keys ≡ keys_of ops.now) }
     ensures rise { IfOk result (λ keys. keys_rise keys ≡ true) }
 {
+    distinct_keys(alloc, each_key(alloc, ops)?)
+}
+
+/// The key of each operation.
+fn each_key<'a>(alloc: Global, ops: &'a [Op]) -> Result<Vec<&'a Key>, OutOfMemory>
+    ensures { IfOk result (λ keys. map (λ key. key.now) keys.items ≡ map (λ op. op.key) ops.now) }
+{
     let mut keys = Vec::new(alloc);
-    for op in &sorted_by_key(alloc, ops)? {
-        add_key(alloc, &mut keys, &op.key)?;
-    }
-    Ok(Items::from_vec(keys))
-}
-
-/// The operations in the order of their keys.
-fn sorted_by_key<'a>(alloc: Global, ops: &'a [Op]) -> Result<Vec<&'a Op>, OutOfMemory>
-    ensures { IfOk result (λ sorted. IsPermutation ops.now (map (λ op. op.now) sorted.items)) }
-{
-    let mut sorted = Vec::new(alloc);
     for op in ops {
-        sorted.push(op)?;
+        keys.push(&op.key)?;
     }
-    sorted.sort_by(|op, other| op.key.compare(&other.key))?;
-    Ok(sorted)
-}
-
-/// Adds a key to keys that rise, unless it is there.
-fn add_key(alloc: Global, keys: &mut Vec<Key>, key: &Key) -> Result<(), OutOfMemory>
-    requires { keys_rise keys.old.items ≡ true }
-    ensures set { OnOk result (set_of keys.new.items ≡ insert (set_of keys.old.items) key.now tt) }
-    ensures rise { OnOk result (keys_rise keys.new.items ≡ true) }
-{
-    if let Err(place) = seek(keys, key) {
-        keys.insert(place, key.copy(alloc)?)?;
-    }
-    Ok(())
-}
-
-/// Where a key stands among keys that rise, or else where it would go.
-fn seek(keys: &[Key], key: &Key) -> Result<usize, usize>
-    requires { keys_rise keys.now ≡ true }
-    ensures stands { IfOk result (λ place. StandsAt key.now place keys.now) }
-    ensures goes { IfErr result (λ place. GoesAt key.now place keys.now) }
-    ensures within { IfOk result (λ place. place < length keys.now) }
-    ensures at_most { IfErr result (λ place. place ≤ length keys.now) }
-{
-    keys.binary_search_by(|other| other.compare(key))
-}
-
-/// Where a key stands that is there.
-pub(crate) fn place_of(keys: &[Key], key: &Key) -> usize
-    requires rise { keys_rise keys.now ≡ true }
-    requires there { list_any (same_key key.now) keys.now ≡ true }
-    ensures stands { StandsAt key.now result keys.now }
-    ensures within { result < length keys.now }
-{
-    match seek(keys, key) {
-        Ok(place) => place,
-        Err(place) => place,
-    }
+    Ok(keys)
 }

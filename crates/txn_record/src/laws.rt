@@ -1,20 +1,19 @@
 //! Laws of the sequential side: of operations on documents, and of recorded orders. The crates above
 //! cite them by these contracts.
 ghost use Rattle.std.specs.Prelude.{◌≡◌, ◌≢◌, ◌≤◌, ◌&&◌, [], ◌∷◌, ◌++◌, List, length, map, true, false, Some, Ok, ℤ};
-ghost use Rattle.std.specs.declared.cmp.Ordering.TheVariants.{Less};
-ghost use Rattle.std.specs.FinMap.{empty, get, insert};
+ghost use Rattle.std.specs.FinMap.{get};
+ghost use Rattle.txn_key.specs.declared.key.Key.{Key};
+ghost use Rattle.txn_key.specs.Documents.{Docs};
 ghost use Rattle.txn_record.specs.declared.entry.Entry.{Entry};
-ghost use Rattle.txn_record.specs.declared.key.Key.{Key};
 ghost use Rattle.txn_record.specs.declared.op.Op.{Op};
-ghost use Rattle.txn_record.specs.Documents.{Docs, IsPast, effect, effect_of, body_after, assertion_holds, change_fits, tests, outcome_effect, after, is_right, has_entry, legal};
+ghost use Rattle.txn_record.specs.Effects.{effect, effect_of, body_after, assertion_holds, change_fits, tests};
+ghost use Rattle.txn_record.specs.Orders.{outcome_effect, after, is_right, has_entry, legal};
 ghost use Rattle.std.specs.List.{list_all};
 ghost use Rattle.txn_record.specs.Chain.{Numbers, keys_of, has_key, numbers_of, number_at, found_by, has_room};
-ghost use Rattle.txn_record.specs.Keys.{key_cmp};
 ghost use Rattle.txn_record.specs.Printing.{ops_value};
 ghost use Rattle.txn_record.specs.Reading.{ops_in};
 ghost use Rattle.txn_record.specs.Transactions.{IsTransaction};
 ghost use Rattle.txn_record.specs.Revnos.{first_on, follows, stays_within};
-ghost use Rattle.doc_value.specs.declared.value.Value.{Value};
 
 /// An operation changes nothing but the body at its key.
 pub fn changes_are_local()
@@ -27,13 +26,6 @@ pub fn operations_alone()
     ensures effect { (op : Op) (docs : Docs) → effect (op ∷ []) docs ≡ effect_of op docs }
     ensures tests { (op : Op) (docs : Docs) →
         tests (op ∷ []) docs ≡ (assertion_holds op.assert (get docs op.key) && change_fits op.change (get docs op.key)) }
-{}
-
-/// A key stands after the documents' keys until one that isn't below it is added.
-pub fn documents_rise()
-    ensures empty { (key : Key) → IsPast key empty }
-    ensures push { (docs : Docs) (last : Key) (body : Value) (key : Key) → IsPast last docs → key_cmp last key ≡ Less →
-        IsPast key (insert docs last body) }
 {}
 
 /// A recorded order grows at its end, by a transaction that was not there and was decided rightly.

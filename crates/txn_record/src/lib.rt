@@ -1,15 +1,12 @@
-//! Transactions as they are kept: ids, tokens, keys, operations, records, documents and entries.
+//! Transactions as they are kept: operations, records and entries.
 //!
 //! A value is read as exactly the operations that it is, or refused by the first fault of the first faulty
 //! operation (`Ops::read`), and what they print as is read as them again. `chain` gives the revision number
 //! that each operation finds, and where each key ends.
 #![tactic(auto)]
 
-mod docs;
 mod entry;
 mod fault;
-mod id;
-mod key;
 mod keys;
 mod laws;
 mod op;
@@ -20,14 +17,11 @@ mod record;
 mod revnos;
 mod state;
 
-pub use docs::{Doc, Docs};
 pub use entry::{Entry, Outcome};
 pub use fault::{OpFault, OpsFault};
-pub use id::{Token, TxnId, ids_are_ordered, tokens_read_back};
-pub use key::{Key, keys_are_ordered};
 pub use laws::{
-    chains_follow, changes_are_local, documents_rise, numbers_stand, operations_alone,
-    operations_read_back, orders_grow,
+    chains_follow, changes_are_local, numbers_stand, operations_alone, operations_read_back,
+    orders_grow,
 };
 pub use op::{Assert, Change, Op};
 pub use ops::Ops;

@@ -1,10 +1,10 @@
 ghost use Rattle.std.specs.Prelude.{◌≡◌, IfOk};
 
-use crate::key::Key;
 use doc_query::Query;
 use doc_update::Update;
 use doc_value::{OutOfMemory, Value};
 use std::alloc::Global;
+use txn_key::Key;
 
 /// What an operation asks of its document as it is before the transaction.
 #[derive(Drop)]

@@ -6,14 +6,14 @@ ghost use Rattle.txn_record.specs.Reading.{ops_in, ops_from, op_in, numbered};
 ghost use Rattle.txn_record.specs.Transactions.{IsTransaction, IsSoundOp};
 
 use crate::fault::{OpsFault, Refusal};
-use crate::key::Key;
-use crate::keys::distinct_keys;
+use crate::keys::keys_of;
 use crate::op::Op;
 use crate::read::read_op;
 use doc_value::{OutOfMemory, Value};
 use sqlite_items::Items;
 use std::alloc::Global;
 use std::marker::Model;
+use txn_key::Key;
 
 /// The most operations of a transaction.
 const MAX_OPS: usize = 1000;
@@ -72,7 +72,7 @@ impl Ops {
     pub fn keys(&self, alloc: Global) -> Result<Items<Key>, OutOfMemory>
         ensures { IfOk result (λ keys. keys ≡ keys_of self.now) }
     {
-        distinct_keys(alloc, self.list.as_slice())
+        keys_of(alloc, self.list.as_slice())
     }
 
     /// The value that they print as: a list of objects.

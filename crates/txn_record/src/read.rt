@@ -9,12 +9,12 @@ ghost use Rattle.txn_record.specs.Reading.{Reads, op_in, has_form, has_only_fiel
 ghost use Rattle.txn_record.specs.Transactions.{IsSoundOp, InsertsBody};
 
 use crate::fault::{OpFault, Refusal};
-use crate::key::Key;
 use crate::op::{Assert, Change, Op};
 use doc_query::{Query, QueryFault};
 use doc_update::{Update, UpdateFault};
 use doc_value::{BodyFault, DocId, Field, Value, read_body};
 use std::alloc::Global;
+use txn_key::Key;
 
 /// The deepest nesting of lists and objects in a part of an operation.
 const MAX_PART_NESTING: u32 = 90;

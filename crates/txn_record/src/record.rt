@@ -1,12 +1,12 @@
 ghost use Rattle.std.specs.Prelude.{◌≡◌, IfOk};
 ghost use Rattle.txn_record.specs.States.{is_settled_state, is_decided_state};
 
-use crate::id::TxnId;
 use crate::ops::Ops;
 use crate::state::State;
 use doc_value::{OutOfMemory, Value};
 use sqlite_items::Items;
 use std::alloc::Global;
+use txn_key::TxnId;
 
 /// A transaction as the store keeps it.
 #[derive(Drop)]

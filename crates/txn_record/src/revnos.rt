@@ -2,17 +2,18 @@
 ghost use Rattle.std.specs.Prelude.{◌≡◌, ◌<◌, ◌≤◌, true, length, unsigned_abs, IfOk};
 ghost use Rattle.std.specs.List.{All, list_all, list_any};
 ghost use Rattle.std.specs.FinMap.{values};
+ghost use Rattle.txn_key.specs.Places.{keys_rise};
+ghost use Rattle.txn_key.specs.Keys.{same_key};
 ghost use Rattle.txn_record.specs.Chain.{keys_of, numbers_of, numbers_at, numbers_after, found_by, has_room};
-ghost use Rattle.txn_record.specs.Places.{keys_rise};
-ghost use Rattle.txn_record.specs.Revnos.{number_after, same_key};
+ghost use Rattle.txn_record.specs.Revnos.{number_after};
 
-use crate::key::Key;
-use crate::keys::{distinct_keys, place_of};
+use crate::keys::keys_of;
 use crate::op::{Change, Op};
 use crate::ops::Ops;
 use doc_value::OutOfMemory;
 use sqlite_items::Items;
 use std::alloc::Global;
+use txn_key::{Key, place_of};
 
 /// The greatest absolute value of a number that a chain may begin at: its operations, at most 1,000, then
 /// lead to no number past 2^62.
@@ -42,7 +43,7 @@ pub fn chain(alloc: Global, ops: &Ops, first: &[i64]) -> Result<Chained, OutOfMe
     ensures found { IfOk result (λ chained. chained.found ≡ found_by ops.now (numbers_of ops.now first.now)) }
     ensures last { IfOk result (λ chained. chained.last ≡ values (numbers_after ops.now (numbers_of ops.now first.now))) }
 {
-    let keys = distinct_keys(alloc, ops.as_slice())?;
+    let keys = keys_of(alloc, ops.as_slice())?;
     follow(alloc, ops.as_slice(), keys.as_slice(), first)
 }
 

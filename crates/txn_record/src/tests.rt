@@ -3,11 +3,11 @@ ghost use Rattle.std.specs.List.{list_all};
 ghost use Rattle.txn_record.specs.Chain.{has_room};
 
 use super::*;
-use doc_value::{OutOfMemory, Text, Value, print_value, read_value};
+use doc_value::{OutOfMemory, Value, print_value, read_value};
 use sqlite_items::Items;
 use std::alloc::{AllocError, Global};
-use std::cmp::Ordering;
 use std::test::Fail;
+use txn_key::TxnId;
 
 const ID: &str = "00000000000000000000000a";
 
@@ -19,12 +19,6 @@ fn id(text: &str) -> Result<TxnId, Fail> {
     Ok(TxnId::read(text.as_bytes()).ok_or("no id")?)
 }
 
-fn key(alloc: Global, c: &str, d: &str) -> Result<Key, Fail> {
-    let c = Value::Text(Text::from_str(alloc, c)?);
-    let d = value(alloc, d)?;
-    Ok(Key::read(alloc, &c, &d)?.ok_or("no key")?)
-}
-
 fn read_ops(alloc: Global, json: &str) -> Result<Ops, Fail> {
     let value = value(alloc, json)?;
     Ok(Ops::read(alloc, &value).ok().ok_or("no operations")?)
@@ -33,88 +27,6 @@ fn read_ops(alloc: Global, json: &str) -> Result<Ops, Fail> {
 /// One operation, an update.
 fn ops(alloc: Global) -> Result<Ops, Fail> {
     read_ops(alloc, "[{\"c\":\"k\",\"d\":7,\"u\":{\"$set\":{\"v\":1}}}]")
-}
-
-/// The token's text again, in lower case; empty where there is none.
-fn token_again(alloc: Global, text: &str) -> Result<Vec<u8>, Fail> {
-    match Token::read(text.as_bytes()) {
-        Some(token) => Ok(token.print(alloc)?),
-        None => Ok(Vec::new(alloc)),
-    }
-}
-
-#[test]
-fn tokens(rt: HostRuntime) -> Result<(), Fail> {
-    let rows = [
-        [
-            "00000000000000000000000A_0000002F",
-            "00000000000000000000000a_0000002f",
-        ],
-        [
-            "00000000000000000000000a_ffffffff",
-            "00000000000000000000000a_ffffffff",
-        ],
-        ["00000000000000000000000a-00000000", ""],
-        ["00000000000000000000000a_0000000", ""],
-        ["0000000000000000000000a_000000000", ""],
-        ["00000000000000000000000g_00000000", ""],
-        ["00000000000000000000000a_0000000g", ""],
-        ["00000000000000000000000a", ""],
-    ];
-    for [text, again] in rows {
-        assert_eq!(rt;
-            token_again(rt.alloc(), text)?.as_slice(),
-            again.as_bytes(),
-            "{text}"
-        );
-    }
-    Ok(())
-}
-
-#[test]
-fn ids(rt: HostRuntime) -> Result<(), Fail> {
-    let token = Token::read(b"00000000000000000000000a_00010203").ok_or("no token")?;
-    assert_eq!(rt; token.nonce, 66051);
-    assert_eq!(rt; token.id.print(rt.alloc())?.as_slice(), ID.as_bytes());
-    assert!(rt; token.id.compare(&id("010000000000000000000000")?) == Ordering::Less);
-    assert!(rt; TxnId::read(b"00000000000000000000000").is_none());
-    Ok(())
-}
-
-fn stands_before(
-    alloc: Global,
-    c: &str,
-    d: &str,
-    other_c: &str,
-    other_d: &str,
-) -> Result<bool, Fail> {
-    let lesser = key(alloc, c, d)?;
-    let greater = key(alloc, other_c, other_d)?;
-    let copy = lesser.copy(alloc)?;
-    Ok(
-        lesser.compare(&greater) == Ordering::Less
-            && lesser.equals(&copy)
-            && !lesser.equals(&greater),
-    )
-}
-
-#[test]
-fn keys_in_order(rt: HostRuntime) -> Result<(), Fail> {
-    let rows = [
-        ["a", "\"z\"", "b", "\"a\""],
-        ["a", "9", "aa", "\"\""],
-        ["k", "\"z\"", "k", "-5"],
-        ["k", "\"B\"", "k", "\"a\""],
-        ["k", "\"a\"", "k", "\"aa\""],
-        ["k", "9", "k", "10"],
-    ];
-    for [c, d, other_c, other_d] in rows {
-        assert!(rt;
-            stands_before(rt.alloc(), c, d, other_c, other_d)?,
-            "{c} {d} {other_c} {other_d}"
-        );
-    }
-    Ok(())
 }
 
 /// Values, and what they print as where they are operations, or else their fault, with the number of the
@@ -293,183 +205,42 @@ static READINGS: [(&str, &str); 93] = [
     ),
 ];
 
-/// Texts of a beginning, a part so many times, another so many times, and an end; and `read` or the fault.
-static LIMITS: [(&str, &str, usize, &str, &str, &str); 28] = [
-    (r#"[{"a":"d+","c":""#, "x", 119, "", r#"","d":1}]"#, "read"),
-    (r#"[{"a":"d+","c":""#, "x", 120, "", r#"","d":1}]"#, "read"),
+/// Texts in which `~` stands for nested lists, how deep these are, and `read` or the fault.
+static DEPTHS: [(&str, usize, &str); 17] = [
+    (r#"[{"a":{"v":~},"c":"k","d":1}]"#, 89, "read"),
+    (r#"[{"a":{"v":~},"c":"k","d":1}]"#, 90, "0 TooDeep"),
+    (r#"[{"c":"k","d":1,"i":{"v":~}}]"#, 89, "read"),
+    (r#"[{"c":"k","d":1,"i":{"v":~}}]"#, 90, "0 TooDeep"),
+    (r#"[{"c":"k","d":1,"u":{"$set":{"v":~}}}]"#, 88, "read"),
+    (r#"[{"c":"k","d":1,"u":{"$set":{"v":~}}}]"#, 89, "0 TooDeep"),
+    (r#"[{"a":~,"c":"k","d":1}]"#, 90, "0 BadAssert"),
+    (r#"[{"a":~,"c":"k","d":1}]"#, 91, "0 TooDeep"),
+    (r#"[{"c":"k","d":1,"i":~}]"#, 90, "0 BadInsert"),
+    (r#"[{"c":"k","d":1,"i":~}]"#, 91, "0 TooDeep"),
+    (r#"[{"c":"k","d":1,"u":~}]"#, 90, "0 BadUpdate"),
+    (r#"[{"c":"k","d":1,"u":~}]"#, 91, "0 TooDeep"),
+    (r#"[{"a":{"v":~},"c":"k","d":1,"u":{}}]"#, 90, "0 TooDeep"),
     (
-        r#"[{"a":"d+","c":""#,
-        "x",
-        121,
-        "",
-        r#"","d":1}]"#,
-        "0 BadKey",
-    ),
-    (
-        r#"[{"a":"d+","c":"k","d":""#,
-        "x",
-        1023,
-        "",
-        r#""}]"#,
-        "read",
-    ),
-    (
-        r#"[{"a":"d+","c":"k","d":""#,
-        "x",
-        1024,
-        "",
-        r#""}]"#,
-        "read",
-    ),
-    (
-        r#"[{"a":"d+","c":"k","d":""#,
-        "x",
-        1025,
-        "",
-        r#""}]"#,
-        "0 BadKey",
-    ),
-    (
-        r#"[{"a":{"v":"#,
-        "[",
-        89,
-        "]",
-        r#"},"c":"k","d":1}]"#,
-        "read",
-    ),
-    (
-        r#"[{"a":{"v":"#,
-        "[",
+        r#"[{"a":{"v":~},"c":"k","d":1,"i":{}}]"#,
         90,
-        "]",
-        r#"},"c":"k","d":1}]"#,
-        "0 TooDeep",
-    ),
-    (r#"[{"c":"k","d":1,"i":{"v":"#, "[", 89, "]", "}}]", "read"),
-    (
-        r#"[{"c":"k","d":1,"i":{"v":"#,
-        "[",
-        90,
-        "]",
-        "}}]",
-        "0 TooDeep",
-    ),
-    (
-        r#"[{"c":"k","d":1,"u":{"$set":{"v":"#,
-        "[",
-        88,
-        "]",
-        "}}}]",
-        "read",
-    ),
-    (
-        r#"[{"c":"k","d":1,"u":{"$set":{"v":"#,
-        "[",
-        89,
-        "]",
-        "}}}]",
-        "0 TooDeep",
-    ),
-    (
-        r#"[{"a":"#,
-        "[",
-        90,
-        "]",
-        r#","c":"k","d":1}]"#,
-        "0 BadAssert",
-    ),
-    (
-        r#"[{"a":"#,
-        "[",
-        91,
-        "]",
-        r#","c":"k","d":1}]"#,
-        "0 TooDeep",
-    ),
-    (r#"[{"c":"k","d":1,"i":"#, "[", 90, "]", "}]", "0 BadInsert"),
-    (r#"[{"c":"k","d":1,"i":"#, "[", 91, "]", "}]", "0 TooDeep"),
-    (r#"[{"c":"k","d":1,"u":"#, "[", 90, "]", "}]", "0 BadUpdate"),
-    (r#"[{"c":"k","d":1,"u":"#, "[", 91, "]", "}]", "0 TooDeep"),
-    (
-        r#"[{"a":{"v":"#,
-        "[",
-        90,
-        "]",
-        r#"},"c":"k","d":1,"u":{}}]"#,
-        "0 TooDeep",
-    ),
-    (
-        r#"[{"a":{"v":"#,
-        "[",
-        90,
-        "]",
-        r#"},"c":"k","d":1,"i":{}}]"#,
         "0 InsertAssert",
     ),
+    (r#"[{"c":"k","d":1,"i":{"$v":~}}]"#, 90, "0 TooDeep"),
     (
-        r#"[{"c":"k","d":1,"i":{"$v":"#,
-        "[",
-        90,
-        "]",
-        "}}]",
-        "0 TooDeep",
-    ),
-    (
-        r#"[{"c":"k","d":1,"r":true,"u":"#,
-        "[",
+        r#"[{"c":"k","d":1,"r":true,"u":~}]"#,
         91,
-        "]",
-        "}]",
         "0 SeveralChanges",
     ),
-    (
-        r#"[{"c":"k","d":1,"i":{"_id":"#,
-        "[",
-        90,
-        "]",
-        "}}]",
-        "0 TooDeep",
-    ),
-    (
-        "[",
-        r#"{"c":"k","d":1,"r":true},"#,
-        999,
-        "",
-        r#"{"c":"k","d":1,"r":true}]"#,
-        "read",
-    ),
-    (
-        "[",
-        r#"{"c":"k","d":1,"r":true},"#,
-        1000,
-        "",
-        r#"{"c":"k","d":1,"r":true}]"#,
-        "TooMany",
-    ),
-    (
-        "[5",
-        r#",{"c":"k","d":1,"r":true}"#,
-        1000,
-        "",
-        "]",
-        "TooMany",
-    ),
-    (
-        "[",
-        r#"{"c":"k","d":1,"r":true},"#,
-        999,
-        "",
-        "{}]",
-        "999 KeyMissing",
-    ),
-    (
-        "[5",
-        r#",{"c":"k","d":1,"r":true}"#,
-        999,
-        "",
-        "]",
-        "0 BadOperation",
-    ),
+    (r#"[{"c":"k","d":1,"i":{"_id":~}}]"#, 90, "0 TooDeep"),
+];
+
+/// What stands first, how many removals follow, what stands last, and `read` or the fault.
+static COUNTS: [(&str, usize, &str, &str); 5] = [
+    ("", 999, r#"{"c":"k","d":1,"r":true}"#, "read"),
+    ("", 1000, r#"{"c":"k","d":1,"r":true}"#, "TooMany"),
+    ("5,", 999, "{}", "TooMany"),
+    ("", 999, "{}", "999 KeyMissing"),
+    ("5,", 998, "{}", "0 BadOperation"),
 ];
 
 /// Operations, the number that each key begins at, the number that each operation finds, and the number where
@@ -577,20 +348,52 @@ fn push_times(out: &mut Vec<u8>, times: usize, piece: &str) -> Result<(), OutOfM
     Ok(())
 }
 
-#[test]
-fn operations_have_limits(rt: HostRuntime) -> Result<(), Fail> {
-    for (begin, open, times, close, end, expected) in &LIMITS {
-        let mut text = Vec::from_slice(rt.alloc(), begin.as_bytes())?;
-        push_times(&mut text, *times, open)?;
-        push_times(&mut text, *times, close)?;
-        push_times(&mut text, 1, end)?;
-        let shown = reading(rt.alloc(), text.as_slice())?;
-        let expected = if *expected == "read" {
-            text.as_slice()
+fn nested(alloc: Global, text: &str, depth: usize) -> Result<Vec<u8>, OutOfMemory> {
+    let mut out = Vec::new(alloc);
+    for byte in text.as_bytes() {
+        if *byte == b'~' {
+            push_times(&mut out, depth, "[")?;
+            push_times(&mut out, depth, "]")?;
         } else {
-            expected.as_bytes()
-        };
-        assert_eq!(rt; shown.as_slice(), expected, "{begin}{times}{end}");
+            out.push(*byte)?;
+        }
+    }
+    Ok(out)
+}
+
+fn is_read_as(alloc: Global, text: &[u8], expected: &str) -> Result<bool, OutOfMemory> {
+    let shown = reading(alloc, text)?;
+    if expected == "read" {
+        Ok(shown.as_slice() == text)
+    } else {
+        Ok(shown.as_slice() == expected.as_bytes())
+    }
+}
+
+#[test]
+fn parts_have_a_depth(rt: HostRuntime) -> Result<(), Fail> {
+    for (text, depth, expected) in &DEPTHS {
+        let nested = nested(rt.alloc(), text, *depth)?;
+        assert!(rt;
+            is_read_as(rt.alloc(), nested.as_slice(), expected)?,
+            "{text} {depth}"
+        );
+    }
+    Ok(())
+}
+
+#[test]
+fn operations_have_a_number(rt: HostRuntime) -> Result<(), Fail> {
+    for (first, times, last, expected) in &COUNTS {
+        let mut text = Vec::from_slice(rt.alloc(), b"[")?;
+        push_times(&mut text, 1, first)?;
+        push_times(&mut text, *times, r#"{"c":"k","d":1,"r":true},"#)?;
+        push_times(&mut text, 1, last)?;
+        text.push(b']')?;
+        assert!(rt;
+            is_read_as(rt.alloc(), text.as_slice(), expected)?,
+            "{first} {times} {last}"
+        );
     }
     Ok(())
 }
@@ -657,14 +460,8 @@ fn states(rt: HostRuntime) -> Result<(), Fail> {
     Ok(())
 }
 
-fn only_document(alloc: Global, doc: Doc) -> Result<Docs, Fail> {
-    let mut docs = Docs::new(alloc);
-    docs.push(doc)?;
-    Ok(docs.copy(alloc)?)
-}
-
 #[test]
-fn entries_and_documents(rt: HostRuntime) -> Result<(), Fail> {
+fn entries(rt: HostRuntime) -> Result<(), Fail> {
     let entry = Entry {
         id: id(ID)?,
         ops: ops(rt.alloc())?,
@@ -673,10 +470,7 @@ fn entries_and_documents(rt: HostRuntime) -> Result<(), Fail> {
         at: 9,
     };
     let entry = entry.copy(rt.alloc())?;
-    let op = entry.ops.as_slice().first().ok_or("no operation")?;
-    let key = op.key.copy(rt.alloc())?;
-    let body = value(rt.alloc(), "{}")?;
-    let docs = only_document(rt.alloc(), Doc { key, body })?;
-    assert_eq!(rt; docs.as_slice().len(), 1);
+    assert_eq!(rt; entry.ops.as_slice().len(), 1);
+    assert!(rt; entry.revnos.as_slice().first() == Some(&4));
     Ok(())
 }

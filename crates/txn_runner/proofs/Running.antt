@@ -1,7 +1,7 @@
 -- How a run goes on with the calls of a runner, and with calls that only read.
 use Rattle.std.proofs.Common.{◌≡◌, ℕ, zero, suc, ◌+◌, ◌-◌, ◌≤◌, List, [], ◌∷◌, ◌++◌, ◌⊎◌, inl, inr, sym, ap, ◌∙◌, subst, arith}
 use Rattle.std.proofs.lemmas.List.{append-nil}
-use Rattle.txn_record.specs.Documents.{Docs}
+use Rattle.txn_key.specs.Documents.{Docs}
 use Rattle.txn_record.specs.declared.entry.Entry.{Entry}
 use Rattle.txn_record.specs.declared.record.Record.{Record}
 use Rattle.store_trait.specs.Calls.{GoesOn}

@@ -1,6 +1,6 @@
 -- Why a step is refused, by what the store answered.
 use Rattle.std.specs.Prelude.{◌≡◌, ◌≤◌, ◌-◌, ℕ, nat_lt, nat_le, true, false, Bool, Option, Some, None, Result, Ok, Err, if◌then◌else◌}
-use Rattle.txn_record.specs.declared.id.TxnId.{TxnId}
+use Rattle.txn_key.specs.declared.id.TxnId.{TxnId}
 use Rattle.store_trait.specs.Calls.{Exchange, Edits}
 use Rattle.store_trait.specs.declared.cell.Cell.{Cell}
 use Rattle.store_trait.specs.Edits.{nonce_limit}

@@ -1,6 +1,6 @@
 -- Nonces and revision numbers: how many calls for transactions use up, and whether enough are left.
 use Rattle.std.specs.Prelude.{ℕ, ◌+◌, ◌<◌, ◌≤◌, Option, Some, None, unsigned_abs}
-use Rattle.txn_record.specs.declared.key.Key.{Key}
+use Rattle.txn_key.specs.declared.key.Key.{Key}
 use Rattle.store_trait.specs.Contents.{Content}
 use Rattle.store_trait.specs.Edits.{nonce_limit}
 use Rattle.store_trait.specs.View.{doc_at, counter}

@@ -1,6 +1,6 @@
 -- A run as it goes on: the calls on the store since its mark, and the decisions made in them.
 use Rattle.std.specs.Prelude.{◌≡◌, ◌≤◌, ℕ, ◌+◌, List}
-use Rattle.txn_record.specs.Documents.{Docs}
+use Rattle.txn_key.specs.Documents.{Docs}
 use Rattle.txn_record.specs.declared.entry.Entry.{Entry}
 use Rattle.store_trait.specs.Contents.{Content}
 use Rattle.store_laws.specs.Trail.{IsTrail}

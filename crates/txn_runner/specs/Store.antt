@@ -1,8 +1,8 @@
 -- What a store holds under the names of documents and records.
 use Rattle.std.specs.Prelude.{Bool, is_some}
 use Rattle.std.specs.FinMap.{get}
-use Rattle.txn_record.specs.declared.id.TxnId.{TxnId}
-use Rattle.txn_record.specs.declared.key.Key.{Key}
+use Rattle.txn_key.specs.declared.id.TxnId.{TxnId}
+use Rattle.txn_key.specs.declared.key.Key.{Key}
 use Rattle.store_trait.specs.Contents.{Content}
 use Rattle.store_trait.specs.declared.name.Name.TheVariants as name
 

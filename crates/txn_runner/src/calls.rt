@@ -10,7 +10,7 @@ ghost use Rattle.txn_runner.specs.Causes.{IsMissed, IsOfStore};
 use crate::error::StepError;
 use std::alloc::Global;
 use store_trait::{Cell, DocCell, Edit, Edited, Name, Store, StoreError, doc_in};
-use txn_record::{Key, TxnId};
+use txn_key::{Key, TxnId};
 
 /// An edit of the store.
 pub fn edit<S: Store>(

@@ -1,6 +1,6 @@
 use std::alloc::AllocError;
 use store_trait::{Name, StoreError};
-use txn_record::{Key, Token, TxnId};
+use txn_key::{Key, Token, TxnId};
 
 /// Why a step of a runner was refused. The step may be made again.
 #[derive(Drop)]

@@ -23,7 +23,8 @@ use doc_value::OutOfMemory;
 use sqlite_items::Items;
 use std::alloc::Global;
 use store_trait::{Edit, Name, Store, counter_in};
-use txn_record::{Change, Entry, Op, Outcome, Record, State, Token, TxnId};
+use txn_key::{Token, TxnId};
+use txn_record::{Change, Entry, Op, Outcome, Record, State};
 
 /// The greatest absolute value of a revision number at which a chain may begin.
 const LAST_REVNO: u64 = 4_611_686_018_427_386_903;

@@ -1,7 +1,7 @@
 //! The tests of an operation, on its document as it is.
 
 ghost use Rattle.std.specs.Prelude.{◌≡◌, ◌&&◌, Some};
-ghost use Rattle.txn_record.specs.Documents.{assertion_holds, change_fits};
+ghost use Rattle.txn_record.specs.Effects.{assertion_holds, change_fits};
 
 use doc_apply::fits;
 use doc_query::matches;

@@ -1,4 +1,5 @@
-use txn_record::{Ops, TxnId};
+use txn_key::TxnId;
+use txn_record::Ops;
 
 /// A transaction of the batch that the next `go` runs.
 #[derive(Drop)]

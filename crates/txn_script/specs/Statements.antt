@@ -10,12 +10,12 @@ use Rattle.doc_value.specs.declared.fault.ValueFault.{ValueFault}
 use Rattle.doc_value.specs.declared.value.Named.{Named}
 use Rattle.doc_value.specs.declared.value.Value.{Value, out-Value}
 use Rattle.doc_value.specs.declared.value.Value.TheOpen.{Value-F}
-use Rattle.txn_record.specs.Ids.{id_of}
-use Rattle.txn_record.specs.Operations.{key_in}
+use Rattle.txn_key.specs.Ids.{id_of}
+use Rattle.txn_key.specs.Reading.{key_in}
+use Rattle.txn_key.specs.declared.id.TxnId.{TxnId}
+use Rattle.txn_key.specs.declared.key.Key.{Key}
 use Rattle.txn_record.specs.Reading.{ops_in}
 use Rattle.txn_record.specs.declared.fault.OpsFault.{OpsFault}
-use Rattle.txn_record.specs.declared.id.TxnId.{TxnId}
-use Rattle.txn_record.specs.declared.key.Key.{Key}
 use Rattle.txn_record.specs.declared.op.Op.{Op}
 use Rattle.txn_script.specs.Faults.{fault_of_value, fault_of_ops}
 use Rattle.txn_script.specs.declared.fault.ScriptFault.{ScriptFault}

@@ -7,7 +7,8 @@ ghost use Rattle.txn_script.specs.Statements.{is_skipped, is_blank_byte, line_in
 use crate::fault::ScriptFault;
 use doc_value::{BodyFault, Field, OutOfMemory, Value, read_body, read_value};
 use std::alloc::Global;
-use txn_record::{Key, Ops, TxnId};
+use txn_key::{Key, TxnId};
+use txn_record::Ops;
 
 /// The deepest nesting of lists and objects in what is noted with a transaction.
 const MAX_INFO_NESTING: u32 = 90;

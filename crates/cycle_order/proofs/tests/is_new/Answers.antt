@@ -5,7 +5,7 @@ use Rattle.std.proofs.lemmas.Bool.{false≢true}
 use Rattle.std.proofs.lemmas.Cmp.{lists_equiv}
 use Rattle.std.proofs.lemmas.List.{get_or_default}
 use Rattle.cycle_order.proofs.tests.is_new.Goals as goal
-use Rattle.txn_record.specs.declared.id.TxnId.{TxnId}
+use Rattle.txn_key.specs.declared.id.TxnId.{TxnId}
 
 -- ids that the test tells apart differ
 differ : (s t : TxnId) (answer : Bool) → answer ≡ pointwise nat_eq s.0 t.0 → answer ≡ false → s ≢ t

@@ -1,5 +1,5 @@
 use Rattle.std.proofs.Common.{ap, sym, ◌∙◌, arith}
-use Rattle.txn_record.specs.Documents.{after}
+use Rattle.txn_record.specs.Orders.{after}
 use Rattle.store_laws.proofs.TrailFaithful.{trail_faithful, means_at, steps_between}
 use Rattle.store_laws.proofs.TrailLegal.{trail_legal}
 use Rattle.store_laws.proofs.histories.trusting_a_trail.Goals as goal

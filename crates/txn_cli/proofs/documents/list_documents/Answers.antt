@@ -1,5 +1,5 @@
 use Rattle.std.proofs.Common.{rules, replicate, sym, subst}
-use Rattle.txn_record.specs.Documents.{IsPast}
+use Rattle.txn_key.specs.Documents.{IsPast}
 use Rattle.txn_cli.specs.Listing.{IsNext}
 use Rattle.store_trait.specs.Contents.{Content}
 use Rattle.txn_cli.specs.declared.documents.Next.TheVariants as next

@@ -1,5 +1,0 @@
-use Rattle.txn_record.proofs.TokenTexts.{token_of-token_text}
-use Rattle.txn_record.proofs.id.tokens_read_back.Goals as goal
-
-pub returns : goal.returns
-returns c = token_of-token_text

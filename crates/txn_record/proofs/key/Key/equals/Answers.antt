@@ -1,5 +1,0 @@
-use Rattle.txn_record.proofs.KeyOrder.{equal_keys}
-use Rattle.txn_record.proofs.key.Key.equals.Goals as goal
-
-pub returns : goal.returns
-returns c = equal_keys _ _ _ _ c.compare.ensures c.eq.ensures

@@ -1,5 +1,0 @@
-use Rattle.txn_record.proofs.KeyOrder.{key_cmp_total, key_cmp-IsAntisymmetric}
-use Rattle.txn_record.proofs.key.keys_are_ordered.Goals as goal
-
-pub returns : goal.returns
-returns c = record { total = key_cmp_total; same = key_cmp-IsAntisymmetric }
