@@ -4,7 +4,7 @@ ghost use Rattle.std.specs.Prelude.{◌≡◌, ◌≢◌, ◌++◌, [], ℕ, Lis
 ghost use Rattle.store_trait.specs.Calls.{CallsGoOn, Rose};
 ghost use Rattle.store_trait.specs.Contents.{Content};
 ghost use Rattle.txn_cli.specs.Play.{is_allowed, Does, RunsBatch, RunsWaiting};
-ghost use Rattle.txn_cli.specs.Refusals.{HasReason, IsOfLine, IsOfRun, IsOfWork, IsUnspent, not_built};
+ghost use Rattle.txn_cli.specs.Refusals.{HasCause, HasReason, IsOfLine, IsOfRun, IsOfWork, IsUnspent, not_built};
 ghost use Rattle.txn_cli.specs.Runs.{GrowsByOne, RunsGoOn};
 ghost use Rattle.txn_cli.specs.Sessions.{IsHeld, at};
 ghost use Rattle.txn_runner.specs.Numbers.{Suffices};
@@ -13,7 +13,7 @@ ghost use Rattle.txn_script.specs.declared.statement.Statement.TheVariants as st
 use crate::batch::Batch;
 use crate::documents::push_documents;
 use crate::done::Run;
-use crate::fault::{Fault, refused};
+use crate::fault::{Fault, misread};
 use crate::go::run_batch;
 use crate::places::{may_wait, place_document};
 use doc_value::Value;
@@ -21,7 +21,7 @@ use std::alloc::Global;
 use store_trait::Store;
 use txn_record::{Key, Ops, TxnId};
 use txn_runner::is_built;
-use txn_script::Statement;
+use txn_script::{ScriptFault, Statement};
 
 /// How far a script has come. `was_empty` says whether the store had no cell as the call began.
 pub struct Session<S> {
@@ -49,6 +49,7 @@ impl<S: Store> Session<S> {
             RunsGoOn (S.place self.new.store) self.new.runs.items (S.calls self.new.store) }
         ensures grown { GrowsByOne self.old.runs.items self.new.runs.items }
         ensures reason { IsTrue S.tells → IsTrue self.old.was_empty → IfErr result (HasReason (S.content self.new.store)) }
+        ensures cause { IfErr result (HasCause S.answered S.calls self.old.store self.new.store) }
         ensures enough { IsTrue S.tells → IsTrue self.old.was_empty →
             Suffices (S.content self.old.store) (length self.old.batch) → IfErr result IsUnspent }
         ensures refused { IsTrue S.tells → IsTrue self.old.was_empty → IfErr result (λ fault. IsOfLine fault →
@@ -77,6 +78,7 @@ impl<S: Store> Session<S> {
             RunsGoOn (S.place self.new.store) self.new.runs.items (S.calls self.new.store) }
         ensures grown { GrowsByOne self.old.runs.items self.new.runs.items }
         ensures reason { IsTrue S.tells → IsTrue self.old.was_empty → IfErr result (HasReason (S.content self.new.store)) }
+        ensures cause { IfErr result (HasCause S.answered S.calls self.old.store self.new.store) }
         ensures enough { IsTrue S.tells → IsTrue self.old.was_empty →
             Suffices (S.content self.old.store) (length self.old.batch) → IfErr result IsUnspent }
         ensures never { IsTrue self.old.was_empty → IfErr result IsOfRun }
@@ -102,6 +104,7 @@ impl<S: Store> Session<S> {
             RunsGoOn (S.place self.new.store) self.new.runs.items (S.calls self.new.store) }
         ensures grown { GrowsByOne self.old.runs.items self.new.runs.items }
         ensures reason { IsTrue S.tells → IsTrue self.old.was_empty → IfErr result (HasReason (S.content self.new.store)) }
+        ensures cause { IfErr result (HasCause S.answered S.calls self.old.store self.new.store) }
         ensures enough { IsTrue S.tells → IsTrue self.old.was_empty →
             Suffices (S.content self.old.store) (length self.old.batch) → IfErr result IsUnspent }
         ensures refused { IsTrue S.tells → IfErr result (λ fault. IsOfLine fault →
@@ -138,6 +141,7 @@ impl<S: Store> Session<S> {
             RunsGoOn (S.place self.new.store) self.new.runs.items (S.calls self.new.store) }
         ensures grown { GrowsByOne self.old.runs.items self.new.runs.items }
         ensures reason { IsTrue S.tells → IsTrue self.old.was_empty → IfErr result (HasReason (S.content self.new.store)) }
+        ensures cause { IfErr result (HasCause S.answered S.calls self.old.store self.new.store) }
         ensures enough { IsTrue S.tells → IsTrue self.old.was_empty →
             Suffices (S.content self.old.store) (length self.old.batch) → IfErr result IsUnspent }
         ensures refused { IsTrue S.tells → IfErr result (λ fault. IsOfLine fault →
@@ -177,6 +181,7 @@ impl<S: Store> Session<S> {
             RunsGoOn (S.place self.new.store) self.new.runs.items (S.calls self.new.store) }
         ensures grown { GrowsByOne self.old.runs.items self.new.runs.items }
         ensures reason { IsTrue S.tells → IsTrue self.old.was_empty → IfErr result (HasReason (S.content self.new.store)) }
+        ensures cause { IfErr result (HasCause S.answered S.calls self.old.store self.new.store) }
         ensures enough { IsTrue S.tells → IsTrue self.old.was_empty →
             Suffices (S.content self.old.store) (length self.old.batch) → IfErr result IsUnspent }
         ensures never { IsTrue self.old.was_empty → IfErr result IsOfRun }
@@ -209,6 +214,7 @@ impl<S: Store> Session<S> {
             RunsGoOn (S.place self.new.store) self.new.runs.items (S.calls self.new.store) }
         ensures grown { GrowsByOne self.old.runs.items self.new.runs.items }
         ensures reason { IsTrue S.tells → IsTrue self.old.was_empty → IfErr result (HasReason (S.content self.new.store)) }
+        ensures cause { IfErr result (HasCause S.answered S.calls self.old.store self.new.store) }
         ensures enough { IsTrue S.tells → IsTrue self.old.was_empty →
             Suffices (S.content self.old.store) (length self.old.batch) → IfErr result IsUnspent }
         ensures never { IsTrue self.old.was_empty → IfErr result IsOfRun }
@@ -236,5 +242,5 @@ fn unbuilt(alloc: Global, line: u64) -> Fault
     ensures unspent { IsUnspent result }
     ensures other { result ≢ Fault.Store }
 {
-    refused(alloc, line, "not built yet")
+    misread(alloc, line, &ScriptFault::NotBuilt)
 }
