@@ -10,3 +10,4 @@ pub mod Listed
 pub mod Readings
 pub mod BatchRuns
 pub mod Spending
+pub mod Caused

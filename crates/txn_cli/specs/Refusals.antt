@@ -1,9 +1,13 @@
-use Rattle.std.specs.Prelude.{ℕ, ◌≤◌, codes}
+use Rattle.std.specs.Prelude.{ℕ, ◌≤◌}
+use Rattle.txn_script.specs.Faults.{fault_text as script_text}
+use Rattle.txn_script.specs.declared.fault.ScriptFault.TheVariants as script_fault
 use Rattle.txn_cli.specs.declared.fault.Fault.{Fault}
 use Rattle.txn_cli.specs.declared.fault.Fault.TheVariants as fault
+use Rattle.store_trait.specs.Calls.{Exchange}
 use Rattle.store_trait.specs.Contents.{Content}
 use Rattle.store_trait.specs.Edits.{nonce_limit}
 use Rattle.store_trait.specs.View.{counter}
+use Rattle.txn_runner.specs.Causes.{ShowsClash, ShowsNoNonce, ShowsRepeated, ShowsSpentRevno, WasAnswered}
 use Rattle.txn_runner.specs.Settling.{IsRevnoSpent}
 use Rattle.txn_runner.specs.declared.error.StepError.{StepError}
 use Rattle.txn_runner.specs.declared.error.StepError.TheVariants as step
@@ -15,7 +19,7 @@ IsOfLine _ = ⊥
 
 -- the refusal of a line whose form isn't built
 abbrev pub not_built : ℕ → Fault
-not_built line = fault.Line line (codes "not built yet")
+not_built line = fault.Line line (script_text script_fault.NotBuilt)
 
 -- neither a nonce nor a number was wanting
 abbrev pub IsUnspent : Fault → Type 0
@@ -64,3 +68,14 @@ HasReason c (fault.Spent error) = IsUsedUp c error
 HasReason c (fault.Broken error) = ⊥
 HasReason c (fault.Repeated id) = ⊥
 HasReason c _ = Unit {0}
+
+-- Why nonces or numbers are used up, or a record was missing or another one than was written, over a
+-- store that tells nothing too: between the two moments a call was answered that shows it.
+abbrev pub HasCause : {S : Type 0} → (S → Exchange → S → Type 0) → (S → ℕ) → S → S → Fault → Type 0
+HasCause answered calls old new (fault.Spent step.NoncesSpent) = WasAnswered answered calls old new ShowsNoNonce
+HasCause answered calls old new (fault.Spent (step.RevnoSpent key)) = WasAnswered answered calls old new (ShowsSpentRevno key)
+HasCause answered calls old new (fault.Spent _) = ⊥
+HasCause answered calls old new (fault.Broken (step.Clash id at)) = WasAnswered answered calls old new (ShowsClash id at)
+HasCause answered calls old new (fault.Broken _) = ⊥
+HasCause answered calls old new (fault.Repeated id) = WasAnswered answered calls old new (ShowsRepeated id)
+HasCause answered calls old new _ = Unit {0}

@@ -9,7 +9,7 @@ ghost use Rattle.txn_cli.specs.Faulting.{status_of, fault_of_line};
 ghost use Rattle.txn_cli.specs.Outcomes.{has_aborted, is_aborted};
 ghost use Rattle.txn_cli.specs.Play.{opening, Refuses, IsRefusedAt, IsValid, is_grammar};
 ghost use Rattle.txn_cli.specs.Reading.{HasDoneLine, HasRunRest, HasPlayed, HasStopped, HasRefused};
-ghost use Rattle.txn_cli.specs.Refusals.{HasReason, IsOfLine, IsOfStatement, IsOfReading, IsUnspent};
+ghost use Rattle.txn_cli.specs.Refusals.{HasCause, HasReason, IsOfLine, IsOfStatement, IsOfReading, IsUnspent};
 ghost use Rattle.txn_cli.specs.Runs.{AreFaithful, GrowsByOne, RunsGoOn};
 ghost use Rattle.txn_cli.specs.Sessions.{IsHeld, at};
 ghost use Rattle.txn_cli.specs.Texts.{fault_text};
@@ -64,7 +64,9 @@ pub fn command<S: Store, I: Source, O: Sink>(
         AreFaithful (S.place result.store) result.runs.items (S.calls result.store) }
 
     // 9 comes only where nonces or revision numbers are used up, and 11 never over a store that tells.
+    // Over any store both come only where a call on it in this call was answered so.
     ensures reason { IsTrue S.tells → S.content store ≡ empty → IfSome result.fault (HasReason (S.content result.store)) }
+    ensures cause { IfSome result.fault (HasCause S.answered S.calls store result.store) }
 
     // Where the words are in the grammar, no line is refused and nothing failed, every line is done, unless
     // memory is wanting: a script has fewer lines than there are nonces, or numbers for a document.
@@ -137,6 +139,7 @@ fn run<S: Store, I: Source, O: Sink>(
     ensures runs { IsTrue S.tells → S.content session.old.store ≡ empty →
         RunsGoOn (S.place session.new.store) session.new.runs.items (S.calls session.new.store) }
     ensures reason { IsTrue S.tells → S.content session.old.store ≡ empty → IfErr result (HasReason (S.content session.new.store)) }
+    ensures cause { IfErr result (HasCause S.answered S.calls session.old.store session.new.store) }
     ensures store { IsErrOf result Fault.Store → Rose (S.faults session.old.store) (S.faults session.new.store) }
     ensures input { IsErrOf result Fault.Input → Rose (I.faults input.old) (I.faults input.new) }
     ensures output { IsErrOf result Fault.Output → Rose (O.faults output.old) (O.faults output.new) }
@@ -210,6 +213,7 @@ fn play<S: Store, I: Source, O: Sink>(
     ensures runs { IsTrue S.tells → S.content session.old.store ≡ empty →
         RunsGoOn (S.place session.new.store) session.new.runs.items (S.calls session.new.store) }
     ensures reason { IsTrue S.tells → S.content session.old.store ≡ empty → IfErr result (HasReason (S.content session.new.store)) }
+    ensures cause { IfErr result (HasCause S.answered S.calls session.old.store session.new.store) }
     ensures words { IfErr result (λ fault. fault ≢ Fault.Words) }
     ensures store { IsErrOf result Fault.Store → Rose (S.faults session.old.store) (S.faults session.new.store) }
     ensures input { IsErrOf result Fault.Input → Rose (I.faults input.old) (I.faults input.new) }
@@ -263,6 +267,7 @@ fn play_line<S: Store, O: Sink>(
         RunsGoOn (S.place session.new.store) session.new.runs.items (S.calls session.new.store) }
     ensures grown { GrowsByOne session.old.runs.items session.new.runs.items }
     ensures reason { IsTrue S.tells → IsTrue session.old.was_empty → IfErr result (HasReason (S.content session.new.store)) }
+    ensures cause { IfErr result (HasCause S.answered S.calls session.old.store session.new.store) }
     ensures enough { IsTrue S.tells → IsTrue session.old.was_empty →
         Suffices (S.content session.old.store) (length session.old.batch) → IfErr result IsUnspent }
     ensures unwritten { IsTrue O.tells → IfErr result (λ fault. fault ≢ Fault.Output → O.written output.new ≡ O.written output.old) }
@@ -300,6 +305,7 @@ fn finish<S: Store, O: Sink>(
         RunsGoOn (S.place session.new.store) session.new.runs.items (S.calls session.new.store) }
     ensures grown { GrowsByOne session.old.runs.items session.new.runs.items }
     ensures reason { IsTrue S.tells → IsTrue session.old.was_empty → IfErr result (HasReason (S.content session.new.store)) }
+    ensures cause { IfErr result (HasCause S.answered S.calls session.old.store session.new.store) }
     ensures enough { IsTrue S.tells → IsTrue session.old.was_empty →
         Suffices (S.content session.old.store) (length session.old.batch) → IfErr result IsUnspent }
     ensures unwritten { IsTrue O.tells → IfErr result (λ fault. fault ≢ Fault.Output → O.written output.new ≡ O.written output.old) }

@@ -6,7 +6,7 @@ ghost use Rattle.txn_runner.specs.Calm.{IsCalm};
 ghost use Rattle.txn_cli.specs.Batches.{MayRun, IsBegun, IsDoneWith, WorksOnBatch, are_built};
 ghost use Rattle.txn_runner.specs.Numbers.{Suffices, Uses};
 ghost use Rattle.txn_cli.specs.Play.{HasRunBatch};
-ghost use Rattle.txn_cli.specs.Refusals.{IsOfRun, IsUnspent, HasReason};
+ghost use Rattle.txn_cli.specs.Refusals.{IsOfRun, IsUnspent, HasCause, HasReason};
 ghost use Rattle.txn_cli.specs.Runs.{GrowsByOne, RunsGoOn};
 ghost use Rattle.txn_record.specs.declared.entry.Entry.{Entry as LogEntry};
 
@@ -38,6 +38,7 @@ pub fn run_batch<S: Store>(
     ensures grown { GrowsByOne runs.old.items runs.new.items }
     ensures reason { IsTrue S.tells → IfErr result (HasReason (S.content store.new)) }
     ensures enough { IsTrue S.tells → Suffices (S.content store.old) (length batch.now) → IfErr result IsUnspent }
+    ensures cause { IfErr result (HasCause S.answered S.calls store.old store.new) }
     ensures kind { IfErr result IsOfRun }
     ensures calls { CallsGoOn S.tells S.content S.place S.calls S.faults store.old store.new }
     ensures fault { IsErrOf result Fault.Store → Rose (S.faults store.old) (S.faults store.new) }
@@ -75,6 +76,7 @@ fn run_all<S: Store>(
     ensures done { IsTrue S.tells → IfOk result (λ lines. IsDoneWith (S.content store.new) batch.now lines.items) }
     ensures uses { IsTrue S.tells → Uses (S.content store.old) (S.content store.new) (length batch.now) (length batch.now) 0 0 }
     ensures reason { IsTrue S.tells → IfErr result (HasReason (S.content store.new)) }
+    ensures cause { IfErr result (HasCause S.answered S.calls store.old store.new) }
     ensures kind { IfErr result IsOfRun }
     ensures calls { CallsGoOn S.tells S.content S.place S.calls S.faults store.old store.new }
     ensures fault { IsErrOf result Fault.Store → Rose (S.faults store.old) (S.faults store.new) }
@@ -93,6 +95,7 @@ fn submit_all<S: Store>(alloc: Global, store: &mut S, batch: &[Waiting]) -> Resu
     ensures begun { IsTrue S.tells → OnOk result (IsBegun (S.content store.new) batch.now) }
     ensures uses { IsTrue S.tells → Uses (S.content store.old) (S.content store.new) 0 0 0 0 }
     ensures reason { IsTrue S.tells → IfErr result (HasReason (S.content store.new)) }
+    ensures cause { IfErr result (HasCause S.answered S.calls store.old store.new) }
     ensures kind { IfErr result IsOfRun }
     ensures calls { CallsGoOn S.tells S.content S.place S.calls S.faults store.old store.new }
     ensures fault { IsErrOf result Fault.Store → Rose (S.faults store.old) (S.faults store.new) }
@@ -121,6 +124,7 @@ fn settle_all<S: Store>(
     ensures done { IsTrue S.tells → IfOk result (λ lines. IsDoneWith (S.content store.new) batch.now lines.items) }
     ensures uses { IsTrue S.tells → Uses (S.content store.old) (S.content store.new) (length batch.now) (length batch.now) 0 0 }
     ensures reason { IsTrue S.tells → IfErr result (HasReason (S.content store.new)) }
+    ensures cause { IfErr result (HasCause S.answered S.calls store.old store.new) }
     ensures kind { IfErr result IsOfRun }
     ensures calls { CallsGoOn S.tells S.content S.place S.calls S.faults store.old store.new }
     ensures fault { IsErrOf result Fault.Store → Rose (S.faults store.old) (S.faults store.new) }

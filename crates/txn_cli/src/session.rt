@@ -4,7 +4,7 @@ ghost use Rattle.std.specs.Prelude.{◌≡◌, ◌≢◌, ◌++◌, [], ℕ, Lis
 ghost use Rattle.store_trait.specs.Calls.{CallsGoOn, Rose};
 ghost use Rattle.store_trait.specs.Contents.{Content};
 ghost use Rattle.txn_cli.specs.Play.{is_allowed, Does, RunsBatch, RunsWaiting};
-ghost use Rattle.txn_cli.specs.Refusals.{HasReason, IsOfLine, IsOfRun, IsOfWork, IsUnspent, not_built};
+ghost use Rattle.txn_cli.specs.Refusals.{HasCause, HasReason, IsOfLine, IsOfRun, IsOfWork, IsUnspent, not_built};
 ghost use Rattle.txn_cli.specs.Runs.{GrowsByOne, RunsGoOn};
 ghost use Rattle.txn_cli.specs.Sessions.{IsHeld, at};
 ghost use Rattle.txn_runner.specs.Numbers.{Suffices};
@@ -13,7 +13,7 @@ ghost use Rattle.txn_script.specs.declared.statement.Statement.TheVariants as st
 use crate::batch::Batch;
 use crate::documents::push_documents;
 use crate::done::Run;
-use crate::fault::{Fault, refused};
+use crate::fault::{Fault, misread};
 use crate::go::run_batch;
 use crate::places::{may_wait, place_document};
 use doc_value::Value;
@@ -22,7 +22,7 @@ use store_trait::Store;
 use txn_key::{Key, TxnId};
 use txn_record::Ops;
 use txn_runner::is_built;
-use txn_script::Statement;
+use txn_script::{ScriptFault, Statement};
 
 /// How far a script has come. `was_empty` says whether the store had no cell as the call began.
 pub struct Session<S> {
@@ -50,6 +50,7 @@ impl<S: Store> Session<S> {
             RunsGoOn (S.place self.new.store) self.new.runs.items (S.calls self.new.store) }
         ensures grown { GrowsByOne self.old.runs.items self.new.runs.items }
         ensures reason { IsTrue S.tells → IsTrue self.old.was_empty → IfErr result (HasReason (S.content self.new.store)) }
+        ensures cause { IfErr result (HasCause S.answered S.calls self.old.store self.new.store) }
         ensures enough { IsTrue S.tells → IsTrue self.old.was_empty →
             Suffices (S.content self.old.store) (length self.old.batch) → IfErr result IsUnspent }
         ensures refused { IsTrue S.tells → IsTrue self.old.was_empty → IfErr result (λ fault. IsOfLine fault →
@@ -78,6 +79,7 @@ impl<S: Store> Session<S> {
             RunsGoOn (S.place self.new.store) self.new.runs.items (S.calls self.new.store) }
         ensures grown { GrowsByOne self.old.runs.items self.new.runs.items }
         ensures reason { IsTrue S.tells → IsTrue self.old.was_empty → IfErr result (HasReason (S.content self.new.store)) }
+        ensures cause { IfErr result (HasCause S.answered S.calls self.old.store self.new.store) }
         ensures enough { IsTrue S.tells → IsTrue self.old.was_empty →
             Suffices (S.content self.old.store) (length self.old.batch) → IfErr result IsUnspent }
         ensures never { IsTrue self.old.was_empty → IfErr result IsOfRun }
@@ -103,6 +105,7 @@ impl<S: Store> Session<S> {
             RunsGoOn (S.place self.new.store) self.new.runs.items (S.calls self.new.store) }
         ensures grown { GrowsByOne self.old.runs.items self.new.runs.items }
         ensures reason { IsTrue S.tells → IsTrue self.old.was_empty → IfErr result (HasReason (S.content self.new.store)) }
+        ensures cause { IfErr result (HasCause S.answered S.calls self.old.store self.new.store) }
         ensures enough { IsTrue S.tells → IsTrue self.old.was_empty →
             Suffices (S.content self.old.store) (length self.old.batch) → IfErr result IsUnspent }
         ensures refused { IsTrue S.tells → IfErr result (λ fault. IsOfLine fault →
@@ -139,6 +142,7 @@ impl<S: Store> Session<S> {
             RunsGoOn (S.place self.new.store) self.new.runs.items (S.calls self.new.store) }
         ensures grown { GrowsByOne self.old.runs.items self.new.runs.items }
         ensures reason { IsTrue S.tells → IsTrue self.old.was_empty → IfErr result (HasReason (S.content self.new.store)) }
+        ensures cause { IfErr result (HasCause S.answered S.calls self.old.store self.new.store) }
         ensures enough { IsTrue S.tells → IsTrue self.old.was_empty →
             Suffices (S.content self.old.store) (length self.old.batch) → IfErr result IsUnspent }
         ensures refused { IsTrue S.tells → IfErr result (λ fault. IsOfLine fault →
@@ -178,6 +182,7 @@ impl<S: Store> Session<S> {
             RunsGoOn (S.place self.new.store) self.new.runs.items (S.calls self.new.store) }
         ensures grown { GrowsByOne self.old.runs.items self.new.runs.items }
         ensures reason { IsTrue S.tells → IsTrue self.old.was_empty → IfErr result (HasReason (S.content self.new.store)) }
+        ensures cause { IfErr result (HasCause S.answered S.calls self.old.store self.new.store) }
         ensures enough { IsTrue S.tells → IsTrue self.old.was_empty →
             Suffices (S.content self.old.store) (length self.old.batch) → IfErr result IsUnspent }
         ensures never { IsTrue self.old.was_empty → IfErr result IsOfRun }
@@ -210,6 +215,7 @@ impl<S: Store> Session<S> {
             RunsGoOn (S.place self.new.store) self.new.runs.items (S.calls self.new.store) }
         ensures grown { GrowsByOne self.old.runs.items self.new.runs.items }
         ensures reason { IsTrue S.tells → IsTrue self.old.was_empty → IfErr result (HasReason (S.content self.new.store)) }
+        ensures cause { IfErr result (HasCause S.answered S.calls self.old.store self.new.store) }
         ensures enough { IsTrue S.tells → IsTrue self.old.was_empty →
             Suffices (S.content self.old.store) (length self.old.batch) → IfErr result IsUnspent }
         ensures never { IsTrue self.old.was_empty → IfErr result IsOfRun }
@@ -237,5 +243,5 @@ fn unbuilt(alloc: Global, line: u64) -> Fault
     ensures unspent { IsUnspent result }
     ensures other { result ≢ Fault.Store }
 {
-    refused(alloc, line, "not built yet")
+    misread(alloc, line, &ScriptFault::NotBuilt)
 }

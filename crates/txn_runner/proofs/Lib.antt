@@ -5,3 +5,4 @@ pub mod Stages
 pub mod Submitting
 pub mod CallsMade
 pub mod Numbers
+pub mod Answered

@@ -1,7 +1,9 @@
 -- Why a step is refused, by what the store answered.
-use Rattle.std.specs.Prelude.{◌≡◌, ◌≤◌, ◌-◌, ℕ, nat_lt, nat_le, true, false, Bool, Option, Some, None, Result, Ok, Err, if◌then◌else◌}
+use Rattle.std.specs.Prelude.{◌≡◌, ◌<◌, ◌≤◌, ◌-◌, ℕ, nat_lt, nat_le, true, false, Bool, Option, Some, None, option_and_then, Result, Ok, Err, if◌then◌else◌, unsigned_abs}
 use Rattle.txn_key.specs.declared.id.TxnId.{TxnId}
-use Rattle.store_trait.specs.Calls.{Exchange, Edits}
+use Rattle.txn_key.specs.declared.key.Key.{Key}
+use Rattle.store_trait.specs.Calls.{Exchange, Reads, Edits, Lists}
+use Rattle.store_trait.specs.Cells.{as_counter}
 use Rattle.store_trait.specs.declared.cell.Cell.{Cell}
 use Rattle.store_trait.specs.Edits.{nonce_limit}
 use Rattle.store_trait.specs.declared.cell.Cell.TheVariants as cell
@@ -11,6 +13,7 @@ use Rattle.store_trait.specs.declared.name.Name.{Name}
 use Rattle.store_trait.specs.declared.name.Name.TheVariants as name
 use Rattle.store_trait.specs.declared.store.StoreError.{StoreError}
 use Rattle.store_trait.specs.declared.store.StoreError.TheVariants as store_error
+use Rattle.txn_runner.specs.Settling.{last_revno}
 use Rattle.txn_runner.specs.declared.error.StepError.{StepError}
 use Rattle.txn_runner.specs.declared.error.StepError.TheVariants as step
 
@@ -25,16 +28,21 @@ IsOfStore step.StoreFault = Unit {0}
 IsOfStore step.OutOfMemory = Unit {0}
 IsOfStore _ = ⊥
 
--- the store answered that an edit missed
-pub record AnsweredMiss {S : Type 0} (answered : S → Exchange → S → Type 0) (old : S) (name : Name) (edit : Edit) (new : S) : Type 0 where
+-- the store answered an edit with that hit or miss
+pub record AnsweredEdit {S : Type 0} (answered : S → Exchange → S → Type 0) (old : S) (name : Name) (edit : Edit) (hit : Bool) (new : S) : Type 0 where
   pub found : Option Cell
-  pub answer : answered old (Edits name edit false found) new
+  pub answer : answered old (Edits name edit hit found) new
 
 -- Besides the store's own refusals there is one: a record and the cell of a name disagree, where the
 -- edit of it missed.
 abbrev pub IsMissed : {S : Type 0} → (S → Exchange → S → Type 0) → S → TxnId → Name → Edit → S → StepError → Type 0
-IsMissed answered old id name edit new (step.Clash who at) = (who ≡ id) × (at ≡ name) × AnsweredMiss answered old name edit new
+IsMissed answered old id name edit new (step.Clash who at) = (who ≡ id) × (at ≡ name) × AnsweredEdit answered old name edit false new
 IsMissed answered old id name edit new error = IsOfStore error
+
+-- the cell that a store answered is no document
+abbrev pub is_no_document : Option Cell → Bool
+is_no_document (Some (cell.Doc _)) = false
+is_no_document _ = true
 
 -- The nonce that a draw gives, by whether it hit and by the counter after it: the number before a hit.
 -- A miss at the last counter says that no nonce is left.
@@ -43,14 +51,54 @@ drawn_of id true (Some counter) = if nat_lt 0 counter then Ok (counter - 1) else
 drawn_of id false (Some counter) = if nat_le nonce_limit counter then Err step.NoncesSpent else Err (step.Clash id name.Nonce)
 drawn_of id _ None = Err (step.Clash id name.Nonce)
 
--- the store answered that no nonce was drawn, and a counter at its end
-pub record AnsweredSpent {S : Type 0} (answered : S → Exchange → S → Type 0) (old new : S) : Type 0 where
-  pub counter : ℕ
-  pub last : nonce_limit ≤ counter
-  pub answer : answered old (Edits name.Nonce edit.DrawNonce false (Some (cell.Nonce counter))) new
+-- ---- what an answer shows
 
--- Why no nonce was drawn, besides the store's own refusals: none is left.
-abbrev pub IsUndrawn : {S : Type 0} → (S → Exchange → S → Type 0) → S → TxnId → S → StepError → Type 0
-IsUndrawn answered old id new step.NoncesSpent = AnsweredSpent answered old new
-IsUndrawn answered old id new (step.Clash who at) = (who ≡ id) × (at ≡ name.Nonce)
-IsUndrawn answered old id new error = IsOfStore error
+-- no nonce was drawn, and the counter stands at its end
+abbrev pub ShowsNoNonce : Exchange → Type 0
+ShowsNoNonce (Edits name.Nonce edit.DrawNonce false (Some (cell.Nonce counter))) = nonce_limit ≤ counter
+ShowsNoNonce _ = ⊥
+
+-- the document of that key stands past the last number
+abbrev pub ShowsSpentRevno : Key → Exchange → Type 0
+ShowsSpentRevno key (Reads (name.Doc at) (Some (cell.Doc doc))) = (at ≡ key) × (last_revno < unsigned_abs doc.revno)
+ShowsSpentRevno _ _ = ⊥
+
+-- An edit for a transaction, of its record or of a queue that its token is put into, missed; or what
+-- was drawn for it is no nonce.
+abbrev pub ShowsMiss : TxnId → Name → Edit → Bool → Option Cell → Type 0
+ShowsMiss id at (edit.Move _ _ _ _) hit found = (at ≡ name.Record id) × (hit ≡ false)
+ShowsMiss id at (edit.AddToken token) hit found = (token.id ≡ id) × (hit ≡ false)
+ShowsMiss id at edit.DrawNonce hit found = drawn_of id hit (option_and_then as_counter found) ≡ Err (step.Clash id at)
+ShowsMiss _ _ _ _ _ = ⊥
+
+-- the record of a transaction and what the store answered at a name disagree
+abbrev pub ShowsClash : TxnId → Name → Exchange → Type 0
+ShowsClash id at (Edits name edit hit found) = (name ≡ at) × ShowsMiss id at edit hit found
+ShowsClash id at (Reads (name.Doc key) found) = (at ≡ name.Doc key) × (is_no_document found ≡ true)
+ShowsClash _ _ _ = ⊥
+
+-- a record of that id is there, so that none was put
+abbrev pub ShowsRepeated : TxnId → Exchange → Type 0
+ShowsRepeated id (Edits at (edit.InsertRecord _) hit _) = (at ≡ name.Record id) × (hit ≡ false)
+ShowsRepeated _ _ = ⊥
+
+-- ---- why a step is refused, over a store that tells nothing too
+
+-- between two moments of a store a call on it was answered that shows this
+pub record WasAnswered {S : Type 0} (answered : S → Exchange → S → Type 0) (calls : S → ℕ) (old new : S) (Shows : Exchange → Type 0) : Type 0 where
+  pub before : S
+  pub after : S
+  pub exchange : Exchange
+  pub began : calls old ≤ calls before
+  pub ended : calls after ≤ calls new
+  pub answer : answered before exchange after
+  pub shows : Shows exchange
+
+-- No nonce is left, or a number is past the last, or a record and a cell disagree: each only where a
+-- call was answered so. A record is never found missing.
+abbrev pub HasCause : {S : Type 0} → (S → Exchange → S → Type 0) → (S → ℕ) → S → S → TxnId → StepError → Type 0
+HasCause answered calls old new id step.NoncesSpent = WasAnswered answered calls old new ShowsNoNonce
+HasCause answered calls old new id (step.RevnoSpent key) = WasAnswered answered calls old new (ShowsSpentRevno key)
+HasCause answered calls old new id (step.Clash who at) = (who ≡ id) × WasAnswered answered calls old new (ShowsClash id at)
+HasCause answered calls old new id (step.Lost _) = ⊥
+HasCause answered calls old new id error = IsOfStore error

@@ -5,7 +5,8 @@ ghost use Rattle.std.specs.FinMap.{get};
 ghost use Rattle.store_trait.specs.Edits.{hit, edited};
 ghost use Rattle.store_trait.specs.Calls.{OneCall, Edits, Reads};
 ghost use Rattle.store_trait.specs.View.{doc_at};
-ghost use Rattle.txn_runner.specs.Causes.{IsMissed, IsOfStore};
+ghost use Rattle.store_trait.specs.declared.cell.Cell.TheVariants.{Doc as CellDoc};
+ghost use Rattle.txn_runner.specs.Causes.{AnsweredEdit, HasCause, IsMissed, IsOfStore};
 
 use crate::error::StepError;
 use std::alloc::Global;
@@ -84,6 +85,7 @@ pub fn may_hit<S: Store>(
     ensures hit { IsTrue S.tells → IfOk result
         (λ hits. hits ≡ is_some (hit change name (get (S.content store.old) name))) }
     ensures left { IsTrue S.tells → OnErr result (S.content store.new ≡ S.content store.old) }
+    ensures answered { IfOk result (λ hits. AnsweredEdit S.answered store.old name change hits store.new) }
     ensures kind { IfErr result IsOfStore }
     ensures call { OneCall S.tells S.content S.place S.calls S.faults store.old store.new result StepError.StoreFault }
 {
@@ -102,6 +104,8 @@ pub fn read_document<S: Store>(
 ) -> Result<DocCell, StepError>
     ensures found { IsTrue S.tells → IfOk result (λ doc. doc_at (S.content store.old) key.now ≡ Some doc) }
     ensures same { IsTrue S.tells → S.content store.new ≡ S.content store.old }
+    ensures answered { IfOk result (λ doc. S.answered store.old (Reads (Name.Doc key.now) (Some (CellDoc doc))) store.new) }
+    ensures cause { IfErr result (HasCause S.answered S.calls store.old store.new id) }
     ensures never { IsTrue S.tells → is_some (doc_at (S.content store.old) key.now) ≡ true → IfErr result IsOfStore }
     ensures call { OneCall S.tells S.content S.place S.calls S.faults store.old store.new result StepError.StoreFault }
 {

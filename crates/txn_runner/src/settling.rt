@@ -2,6 +2,7 @@
 
 ghost use Rattle.std.specs.Prelude.{◌≡◌, ◌<◌, true, IsTrue, IfOk, IfErr, IsErrOf};
 ghost use Rattle.store_trait.specs.Calls.{CallsGoOn, OneCall, Rose};
+ghost use Rattle.txn_runner.specs.Causes.{HasCause};
 ghost use Rattle.txn_runner.specs.Settling.{IsWorth, WorksOn, ComesToStage, MayStop};
 ghost use Rattle.txn_runner.specs.Built.{is_built};
 ghost use Rattle.txn_runner.specs.Numbers.{Uses};
@@ -29,7 +30,8 @@ pub fn settle<S: Store>(
         WorksOn S.content S.place S.calls store.old store.new order.old.items order.new.items txn.now.id }
     ensures settled { IsTrue S.tells → IfOk result
         (λ outcome. IsWorth (S.content store.new) txn.now (Stage.Settled outcome)) }
-    ensures cause { IsTrue S.tells → IfErr result (MayStop (S.content store.new)) }
+    ensures reason { IsTrue S.tells → IfErr result (MayStop (S.content store.new)) }
+    ensures cause { IfErr result (HasCause S.answered S.calls store.old store.new txn.now.id) }
     ensures uses { IsTrue S.tells → Uses (S.content store.old) (S.content store.new) 1 1 0 0 }
     ensures calls { CallsGoOn S.tells S.content S.place S.calls S.faults store.old store.new }
     ensures fault { IsErrOf result StepError.StoreFault → Rose (S.faults store.old) (S.faults store.new) }
@@ -61,6 +63,7 @@ fn advance<S: Store>(
     ensures nearer { IfOk result (λ next. steps_left next < steps_left stage) }
     ensures uses { IsTrue S.tells → UsesUpTo (S.content store.old) (S.content store.new) stage result }
     ensures suits { IfOk result (λ next. suits txn.now.ops next ≡ true) }
+    ensures cause { IfErr result (HasCause S.answered S.calls store.old store.new txn.now.id) }
     ensures call { OneCall S.tells S.content S.place S.calls S.faults store.old store.new result StepError.StoreFault }
 {
     match stage {

@@ -7,7 +7,7 @@ ghost use Rattle.txn_record.specs.declared.entry.Entry.{Entry as LogEntry};
 ghost use Rattle.txn_record.specs.Revnos.{has_effect};
 ghost use Rattle.store_trait.specs.View.{record_at};
 ghost use Rattle.txn_runner.specs.Calm.{IsCalm};
-ghost use Rattle.txn_runner.specs.Causes.{IsMissed, IsOfStore, drawn_of, IsUndrawn};
+ghost use Rattle.txn_runner.specs.Causes.{HasCause, IsOfStore, ShowsRepeated, WasAnswered, drawn_of};
 ghost use Rattle.txn_runner.specs.Settling.{IsWorth, WorksOn, ComesToStage, IsSubmitted, preparing_record};
 ghost use Rattle.txn_runner.specs.Built.{is_built, is_built_change, is_update, updates};
 ghost use Rattle.txn_runner.specs.Numbers.{Uses};
@@ -43,6 +43,8 @@ pub fn submit<S: Store>(alloc: Global, store: &mut S, txn: &Waiting) -> Result<b
         (λ hits. (hits ≡ true) × IsSubmitted (S.content store.new) txn.now) }
     ensures uses { IsTrue S.tells → Uses (S.content store.old) (S.content store.new) 0 0 0 0 }
     ensures kind { IfErr result IsOfStore }
+    ensures repeated { IfOk result (λ hits. hits ≡ false →
+        WasAnswered S.answered S.calls store.old store.new (ShowsRepeated txn.now.id)) }
     ensures call { OneCall S.tells S.content S.place S.calls S.faults store.old store.new result StepError.StoreFault }
 {
     let rec = preparing(alloc, txn)?;
@@ -74,7 +76,7 @@ pub fn draw<S: Store>(alloc: Global, store: &mut S, txn: &Waiting) -> Result<Sta
     ensures nearer { IfOk result (λ next. steps_left next ≡ 6) }
     ensures uses { IsTrue S.tells → UsesUpTo (S.content store.old) (S.content store.new) Stage.Draw result }
     ensures suits { IfOk result (λ next. suits txn.now.ops next ≡ true) }
-    ensures cause { IfErr result (IsUndrawn S.answered store.old txn.now.id store.new) }
+    ensures cause { IfErr result (HasCause S.answered S.calls store.old store.new txn.now.id) }
     ensures call { OneCall S.tells S.content S.place S.calls S.faults store.old store.new result StepError.StoreFault }
 {
     let drawn = edit(alloc, store, &Name::Nonce, &Edit::DrawNonce)?;
@@ -112,6 +114,7 @@ pub fn queue<S: Store>(
     ensures nearer { IfOk result (λ next. steps_left next ≡ 5) }
     ensures uses { IsTrue S.tells → UsesUpTo (S.content store.old) (S.content store.new) (Stage.Queue nonce) result }
     ensures suits { IfOk result (λ next. suits txn.now.ops next ≡ true) }
+    ensures cause { IfErr result (HasCause S.answered S.calls store.old store.new txn.now.id) }
     ensures call { OneCall S.tells S.content S.place S.calls S.faults store.old store.new result StepError.StoreFault }
 {
     let id = txn.id;
@@ -137,6 +140,7 @@ pub fn prepare<S: Store>(
     ensures nearer { IfOk result (λ next. steps_left next ≡ 4) }
     ensures uses { IsTrue S.tells → UsesUpTo (S.content store.old) (S.content store.new) (Stage.Prepare nonce) result }
     ensures suits { IfOk result (λ next. suits txn.now.ops next ≡ true) }
+    ensures cause { IfErr result (HasCause S.answered S.calls store.old store.new txn.now.id) }
     ensures call { OneCall S.tells S.content S.place S.calls S.faults store.old store.new result StepError.StoreFault }
 {
     let change = Edit::Move {
@@ -166,6 +170,7 @@ pub fn look<S: Store>(
     ensures nearer { IfOk result (λ next. steps_left next ≡ 3) }
     ensures uses { IsTrue S.tells → UsesUpTo (S.content store.old) (S.content store.new) (Stage.Look nonce) result }
     ensures suits { IfOk result (λ next. suits txn.now.ops next ≡ true) }
+    ensures cause { IfErr result (HasCause S.answered S.calls store.old store.new txn.now.id) }
     ensures call { OneCall S.tells S.content S.place S.calls S.faults store.old store.new result StepError.StoreFault }
 {
     let op = only(&txn.ops);
@@ -200,6 +205,7 @@ pub fn decide<S: Store>(
     ensures nearer { IfOk result (λ next. steps_left next < 3) }
     ensures uses { IsTrue S.tells → UsesUpTo (S.content store.old) (S.content store.new) (Stage.Decide nonce revno holds) result }
     ensures suits { IfOk result (λ next. suits txn.now.ops next ≡ true) }
+    ensures cause { IfErr result (HasCause S.answered S.calls store.old store.new txn.now.id) }
     ensures call { OneCall S.tells S.content S.place S.calls S.faults store.old store.new result StepError.StoreFault }
 {
     if holds {
@@ -226,6 +232,7 @@ fn apply<S: Store>(
     ensures nearer { IfOk result (λ next. steps_left next < 3) }
     ensures uses { IsTrue S.tells → UsesUpTo (S.content store.old) (S.content store.new) (Stage.Decide nonce revno true) result }
     ensures suits { IfOk result (λ next. suits txn.now.ops next ≡ true) }
+    ensures cause { IfErr result (HasCause S.answered S.calls store.old store.new txn.now.id) }
     ensures call { OneCall S.tells S.content S.place S.calls S.faults store.old store.new result StepError.StoreFault }
 {
     let revnos = Items::from_slice(alloc, &[revno])?;
@@ -279,6 +286,7 @@ fn give_up<S: Store>(
     ensures nearer { IfOk result (λ next. steps_left next < 3) }
     ensures uses { IsTrue S.tells → UsesUpTo (S.content store.old) (S.content store.new) (Stage.Decide nonce revno false) result }
     ensures suits { IfOk result (λ next. suits txn.now.ops next ≡ true) }
+    ensures cause { IfErr result (HasCause S.answered S.calls store.old store.new txn.now.id) }
     ensures call { OneCall S.tells S.content S.place S.calls S.faults store.old store.new result StepError.StoreFault }
 {
     let mut entry = entry_of(alloc, txn, Outcome::Aborted, &[])?;
@@ -338,6 +346,7 @@ pub fn update<S: Store>(
     ensures nearer { IfOk result (λ next. steps_left next ≡ 1) }
     ensures uses { IsTrue S.tells → UsesUpTo (S.content store.old) (S.content store.new) (Stage.Update nonce revno) result }
     ensures suits { IfOk result (λ next. suits txn.now.ops next ≡ true) }
+    ensures cause { IfErr result (HasCause S.answered S.calls store.old store.new txn.now.id) }
     ensures call { OneCall S.tells S.content S.place S.calls S.faults store.old store.new result StepError.StoreFault }
 {
     let op = only(&txn.ops);
@@ -364,6 +373,7 @@ pub fn finish<S: Store>(alloc: Global, store: &mut S, txn: &Waiting) -> Result<S
     ensures nearer { IfOk result (λ next. steps_left next ≡ 0) }
     ensures uses { IsTrue S.tells → UsesUpTo (S.content store.old) (S.content store.new) Stage.Finish result }
     ensures suits { IfOk result (λ next. suits txn.now.ops next ≡ true) }
+    ensures cause { IfErr result (HasCause S.answered S.calls store.old store.new txn.now.id) }
     ensures call { OneCall S.tells S.content S.place S.calls S.faults store.old store.new result StepError.StoreFault }
 {
     let change = Edit::Move {
@@ -387,6 +397,7 @@ pub fn abort<S: Store>(alloc: Global, store: &mut S, txn: &Waiting) -> Result<St
     ensures nearer { IfOk result (λ next. steps_left next ≡ 0) }
     ensures uses { IsTrue S.tells → UsesUpTo (S.content store.old) (S.content store.new) Stage.Abort result }
     ensures suits { IfOk result (λ next. suits txn.now.ops next ≡ true) }
+    ensures cause { IfErr result (HasCause S.answered S.calls store.old store.new txn.now.id) }
     ensures call { OneCall S.tells S.content S.place S.calls S.faults store.old store.new result StepError.StoreFault }
 {
     let change = Edit::Move {

@@ -1,3 +1,4 @@
+use Rattle.txn_cli.proofs.Caused.{caused_before, causes_before}
 use Rattle.std.proofs.Common.{inl, ap, [], refl, sym, ◌∙◌, arith}
 use Rattle.txn_cli.specs.Play.{Progress}
 use Rattle.std.proofs.lemmas.Result.{err_from_is_err_and}
@@ -99,3 +100,11 @@ pub returns-in_err-session-clause-stopped : goal.returns-in_err-session-clause-s
 returns-in_err-session-clause-stopped g c = λ src told e.
     let p = err_from_is_err_and c.from_residual.result c.from_residual.ensures.1 in
     rw (p.1, p.2) (begins_stopped _ _ _ _ _ _ refl (ap (λ (p : Progress). p.runs) c.requires.begins) (of_store_unspent _ c.in_err-session.ensures.kind))
+
+pub returns-in_err-play_line-in-Ok-Some-clause-cause : goal.returns-in_err-play_line-in-Ok-Some-clause-cause
+returns-in_err-play_line-in-Ok-Some-clause-cause g c =
+    let p = err_from_is_err_and c.from_residual-in_err-play_line-in-Ok-Some.result c.from_residual-in_err-play_line-in-Ok-Some.ensures.1 in
+    rw (p.1, p.2) (caused_before _ _ _ _ _ _ c.loop-done.invariant.made.counted c.in_err-play_line-in-Ok-Some.ensures.cause)
+
+pub returns-in-Ok-None-clause-cause : goal.returns-in-Ok-None-clause-cause
+returns-in-Ok-None-clause-cause g c = causes_before _ _ _ _ _ _ c.loop-done.invariant.made.counted c.finish.ensures.cause

@@ -1,3 +1,4 @@
+use Rattle.txn_cli.proofs.Caused.{causes_before}
 use Rattle.txn_cli.proofs.Batches.{batch_then}
 use Rattle.std.proofs.Common.{arith}
 use Rattle.txn_runner.proofs.Numbers.{uses_then, uses_within}
@@ -14,3 +15,6 @@ returns-in-Ok-clause-uses g c = λ told. uses_then (uses_within (c.submit_all.en
 
 pub returns-in-Err-clause-uses : goal.returns-in-Err-clause-uses
 returns-in-Err-clause-uses g c = λ told. uses_within (c.submit_all.ensures.uses told) (omega arith) (omega arith)
+
+pub returns-in-Ok-clause-cause : goal.returns-in-Ok-clause-cause
+returns-in-Ok-clause-cause g c = causes_before _ _ _ _ _ _ c.submit_all.ensures.calls.counted c.settle_all.ensures.cause

@@ -1,3 +1,4 @@
+use Rattle.txn_cli.proofs.Caused.{causes_before}
 use Rattle.std.proofs.Common.{inr, [], refl, sym, ap, ◌∙◌}
 use Rattle.store_trait.specs.Meaning.{meaning}
 use Rattle.txn_cli.proofs.BatchRuns.{if_ok, batch_runs, batch_done}
@@ -31,3 +32,6 @@ returns-clause-grown g c = inr (record { base = c.in-Ok.base; order = c.run_all-
 pub returns-clause-enough : goal.returns-clause-enough
 returns-clause-enough g c = λ told suffices.
     run_unspent c.run_all-lines.result _ _ _ _ suffices (c.in-Ok.ensures.reads told).same (c.run_all-lines.ensures.uses told) (c.run_all-lines.ensures.reason told)
+
+pub returns-clause-cause : goal.returns-clause-cause
+returns-clause-cause g c = causes_before _ _ _ _ _ _ c.in-Ok.ensures.calls.counted c.run_all-lines.ensures.cause

@@ -1,3 +1,4 @@
+use Rattle.txn_cli.proofs.Caused.{caused_before, caused_step}
 use Rattle.std.proofs.Common.{subst, List, rules}
 use Rattle.txn_cli.specs.Batches.{IsSettling}
 use Rattle.txn_runner.specs.declared.waiting.Waiting.{Waiting}
@@ -50,3 +51,6 @@ returns-in-Err-clause-uses g c = λ told.
 
 pub returns-clause-uses : goal.returns-clause-uses
 returns-clause-uses g c = λ told. (subst (λ (l : List Waiting). IsSettling g.S.Store.content g.S.Store.place g.S.Store.calls c.args.store.now c.loop-txn.store c.args.order.now.items c.loop-txn.order.items c.args.batch.now l c.loop-txn.lines.items) (none_left _ _ c.loop-txn-test.false) (c.loop-txn.invariant.told told)).uses
+
+pub returns-in-Err-clause-cause : goal.returns-in-Err-clause-cause
+returns-in-Err-clause-cause g c = caused_before _ _ _ _ _ _ c.loop-txn.invariant.made.counted (rw c.fault_of.ensures.exact (caused_step _ _ _ _ _ _ c.in-Err.ensures.cause))

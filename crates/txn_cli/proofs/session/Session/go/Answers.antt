@@ -1,3 +1,5 @@
+use Rattle.std.specs.FinMap.{empty}
+use Rattle.txn_cli.proofs.Caused.{caused_otherwise}
 use Rattle.std.proofs.Common.{refl}
 use Rattle.txn_cli.proofs.session.Session.go.Goals as goal
 
@@ -9,3 +11,6 @@ returns-clause-done g c = λ told was printed. record {
   none_waits = c.clear.ensures;
   begun = refl;
 }
+
+pub returns-then-not-self-clause-cause : goal.returns-then-not-self-clause-cause
+returns-then-not-self-clause-cause g c = caused_otherwise _ _ empty _ _ _ (c.unbuilt.ensures.reason empty) c.unbuilt.ensures.unspent

@@ -1,3 +1,5 @@
+use Rattle.std.specs.FinMap.{empty}
+use Rattle.txn_cli.proofs.Caused.{caused_otherwise}
 use Rattle.std.proofs.Common.{refl, true}
 use Rattle.std.proofs.lemmas.Result.{err_from_is_err_and}
 use Rattle.store_laws.proofs.Resting.{meaning-rest}
@@ -35,3 +37,11 @@ pub returns-in_err-push_documents-clause-enough : goal.returns-in_err-push_docum
 returns-in_err-push_documents-clause-enough g c = λ told was suffices.
     let p = err_from_is_err_and c.from_residual-in_err-push_documents.result c.from_residual-in_err-push_documents.ensures.1 in
     rw (p.1, p.2) c.in_err-push_documents.ensures.unspent
+
+pub returns-then-not-self-clause-cause : goal.returns-then-not-self-clause-cause
+returns-then-not-self-clause-cause g c = caused_otherwise _ _ empty _ _ _ (c.unbuilt.ensures.reason empty) c.unbuilt.ensures.unspent
+
+pub returns-in_err-push_documents-clause-cause : goal.returns-in_err-push_documents-clause-cause
+returns-in_err-push_documents-clause-cause g c =
+    let p = err_from_is_err_and c.from_residual-in_err-push_documents.result c.from_residual-in_err-push_documents.ensures.1 in
+    rw (p.1, p.2) (caused_otherwise _ _ empty _ _ _ (c.in_err-push_documents.ensures.reason empty) c.in_err-push_documents.ensures.unspent)

@@ -1,3 +1,5 @@
+use Rattle.std.specs.FinMap.{empty}
+use Rattle.txn_cli.proofs.Caused.{caused_otherwise}
 use Rattle.std.proofs.Common.{sym, ◌∙◌, refl}
 use Rattle.std.proofs.lemmas.Bool.{and_parts}
 use Rattle.txn_cli.proofs.OnlyReading.{runs_only_read}
@@ -44,3 +46,18 @@ returns-then-is_some-clause-reason g c = λ told was. c.unbuilt-then-is_some.ens
 
 pub returns-then-not-is_built-clause-reason : goal.returns-then-not-is_built-clause-reason
 returns-then-not-is_built-clause-reason g c = λ told was. c.unbuilt-then-not-is_built.ensures.reason _
+
+pub returns-then-is_full-clause-cause : goal.returns-then-is_full-clause-cause
+returns-then-is_full-clause-cause g c = caused_otherwise _ _ empty _ _ _ (c.unbuilt.ensures.reason empty) c.unbuilt.ensures.unspent
+
+pub returns-then-has-clause-cause : goal.returns-then-has-clause-cause
+returns-then-has-clause-cause g c = caused_otherwise _ _ empty _ _ _ (c.unbuilt-then-has.ensures.reason empty) c.unbuilt-then-has.ensures.unspent
+
+pub returns-then-is_some-clause-cause : goal.returns-then-is_some-clause-cause
+returns-then-is_some-clause-cause g c = caused_otherwise _ _ empty _ _ _ (c.unbuilt-then-is_some.ensures.reason empty) c.unbuilt-then-is_some.ensures.unspent
+
+pub returns-then-not-is_built-clause-cause : goal.returns-then-not-is_built-clause-cause
+returns-then-not-is_built-clause-cause g c = caused_otherwise _ _ empty _ _ _ (c.unbuilt-then-not-is_built.ensures.reason empty) c.unbuilt-then-not-is_built.ensures.unspent
+
+pub returns-then-not-branch-clause-cause : goal.returns-then-not-branch-clause-cause
+returns-then-not-branch-clause-cause g c = caused_otherwise _ _ empty _ _ _ (c.unbuilt-then-not-branch.ensures.reason empty) c.unbuilt-then-not-branch.ensures.unspent
