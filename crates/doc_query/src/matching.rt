@@ -11,8 +11,7 @@ ghost use Rattle.doc_query.specs.Meaning.{holds, holds_as, every, some, logic_ho
 use crate::condition::is_met;
 use crate::operator::{Logic, is_operator};
 use crate::query::Query;
-use doc_value::{get_by_text, is_ordered};
-use doc_value::{Field, Text, Value};
+use doc_value::{Field, Text, Value, get_by_text, is_ordered};
 
 /// From so many names on it pays to learn first whether a body's names are in order.
 const MANY_NAMES: u64 = 16;

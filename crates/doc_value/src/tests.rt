@@ -1,6 +1,6 @@
 use crate::{
-    BodyFault, DocId, Named, OutOfMemory, Path, PathFault, Text, Value, ValueFault, field_of, get, get_by_text,
-    is_ordered, print_value, push_text, push_value, read_body, read_value,
+    BodyFault, DocId, Named, OutOfMemory, Path, PathFault, Text, Value, ValueFault, field_of, get,
+    get_by_text, is_ordered, print_value, push_text, push_value, read_body, read_value,
 };
 use sqlite_items::Items;
 use std::alloc::Global;
@@ -333,7 +333,9 @@ fn paths_are_followed(rt: HostRuntime) -> Result<(), Fail> {
     let value = read_value(rt.alloc(), PLACED).ok().ok_or("not read")?;
     assert!(rt; is_ordered(&value));
     for (text, expected) in &PLACES {
-        let path = Path::read(rt.alloc(), text.as_bytes()).ok().ok_or("no path")?;
+        let path = Path::read(rt.alloc(), text.as_bytes())
+            .ok()
+            .ok_or("no path")?;
         for found in [
             get(&value, &path),
             get_by_text(&value, text, false),
