@@ -4,7 +4,7 @@ use Rattle.std.specs.Prelude.{IfErr}
 use Rattle.txn_key.specs.declared.id.TxnId.{TxnId}
 use Rattle.store_trait.specs.Calls.{Exchange}
 use Rattle.store_trait.specs.Contents.{Content}
-use Rattle.txn_runner.specs.Causes.{HasCause as StepHasCause, ShowsClash, WasAnswered}
+use Rattle.txn_runner.specs.Causes.{HasCause as StepHasCause, LastShows, ShowsClash}
 use Rattle.txn_runner.specs.declared.error.StepError.{StepError}
 use Rattle.txn_runner.specs.declared.error.StepError.TheVariants as step
 use Rattle.txn_cli.specs.Faulting.{fault_of_step}
@@ -13,23 +13,22 @@ use Rattle.txn_cli.specs.declared.fault.Fault.{Fault}
 use Rattle.txn_cli.specs.declared.fault.Fault.TheVariants as fault
 
 module _ {S : Type 0} (answered : S → Exchange → S → Type 0) (calls : S → ℕ) where
-  answered_before : (first old new : S) (Shows : Exchange → Type 0) → calls first ≤ calls old → WasAnswered answered calls old new Shows → WasAnswered answered calls first new Shows
-  answered_before first old new Shows le was = record {
-    before = was.before;
-    after = was.after;
-    exchange = was.exchange;
-    began = omega (arith, le, was.began);
-    ended = was.ended;
-    answer = was.answer;
-    shows = was.shows;
+  shows_before : (first old new : S) (Shows : Exchange → Type 0) → calls first ≤ calls old → LastShows answered calls old new Shows → LastShows answered calls first new Shows
+  shows_before first old new Shows le it = record {
+    before = it.before;
+    exchange = it.exchange;
+    since = omega (arith, le, it.since);
+    last = it.last;
+    answer = it.answer;
+    shows = it.shows;
   }
 
   -- what was answered in later calls was answered since before
   pub caused_before : (first old new : S) (f : Fault) → calls first ≤ calls old → HasCause answered calls old new f → HasCause answered calls first new f
-  caused_before first old new (fault.Spent step.NoncesSpent) le h = answered_before first old new _ le h
-  caused_before first old new (fault.Spent (step.RevnoSpent key)) le h = answered_before first old new _ le h
-  caused_before first old new (fault.Broken (step.Clash id at)) le h = answered_before first old new _ le h
-  caused_before first old new (fault.Repeated id) le h = answered_before first old new _ le h
+  caused_before first old new (fault.Spent step.NoncesSpent) le h = shows_before first old new _ le h
+  caused_before first old new (fault.Spent (step.RevnoSpent key)) le h = shows_before first old new _ le h
+  caused_before first old new (fault.Broken (step.Clash id at)) le h = shows_before first old new _ le h
+  caused_before first old new (fault.Repeated id) le h = shows_before first old new _ le h
   caused_before first old new (fault.Spent step.StoreFault) le h = h
   caused_before first old new (fault.Spent step.OutOfMemory) le h = h
   caused_before first old new (fault.Spent (step.Lost token)) le h = h
@@ -57,7 +56,7 @@ module _ {S : Type 0} (answered : S → Exchange → S → Type 0) (calls : S �
   caused_step old new id step.NoncesSpent h = h
   caused_step old new id (step.RevnoSpent key) h = h
   caused_step old new id (step.Lost token) h = h
-  caused_step old new id (step.Clash who at) h = subst (λ (i : TxnId). WasAnswered answered calls old new (ShowsClash i at)) (sym h.0) h.1
+  caused_step old new id (step.Clash who at) h = subst (λ (i : TxnId). LastShows answered calls old new (ShowsClash i at)) (sym h.0) h.1
 
   -- a refusal that the store's answers have no part in
   pub caused_otherwise : (c : Content) (old new : S) (f : Fault) → HasReason c f → IsUnspent f → HasCause answered calls old new f

@@ -7,7 +7,7 @@ use Rattle.store_trait.specs.Calls.{Exchange}
 use Rattle.store_trait.specs.Contents.{Content}
 use Rattle.store_trait.specs.Edits.{nonce_limit}
 use Rattle.store_trait.specs.View.{counter}
-use Rattle.txn_runner.specs.Causes.{ShowsClash, ShowsNoNonce, ShowsRepeated, ShowsSpentRevno, WasAnswered}
+use Rattle.txn_runner.specs.Causes.{LastShows, ShowsClash, ShowsNoNonce, ShowsRepeated, ShowsSpentRevno}
 use Rattle.txn_runner.specs.Settling.{IsRevnoSpent}
 use Rattle.txn_runner.specs.declared.error.StepError.{StepError}
 use Rattle.txn_runner.specs.declared.error.StepError.TheVariants as step
@@ -70,12 +70,12 @@ HasReason c (fault.Repeated id) = ⊥
 HasReason c _ = Unit {0}
 
 -- Why nonces or numbers are used up, or a record was missing or another one than was written, over a
--- store that tells nothing too: between the two moments a call was answered that shows it.
+-- store that tells nothing too: the last call on it was made since then, and its answer shows it.
 abbrev pub HasCause : {S : Type 0} → (S → Exchange → S → Type 0) → (S → ℕ) → S → S → Fault → Type 0
-HasCause answered calls old new (fault.Spent step.NoncesSpent) = WasAnswered answered calls old new ShowsNoNonce
-HasCause answered calls old new (fault.Spent (step.RevnoSpent key)) = WasAnswered answered calls old new (ShowsSpentRevno key)
+HasCause answered calls old new (fault.Spent step.NoncesSpent) = LastShows answered calls old new ShowsNoNonce
+HasCause answered calls old new (fault.Spent (step.RevnoSpent key)) = LastShows answered calls old new (ShowsSpentRevno key)
 HasCause answered calls old new (fault.Spent _) = ⊥
-HasCause answered calls old new (fault.Broken (step.Clash id at)) = WasAnswered answered calls old new (ShowsClash id at)
+HasCause answered calls old new (fault.Broken (step.Clash id at)) = LastShows answered calls old new (ShowsClash id at)
 HasCause answered calls old new (fault.Broken _) = ⊥
-HasCause answered calls old new (fault.Repeated id) = WasAnswered answered calls old new (ShowsRepeated id)
+HasCause answered calls old new (fault.Repeated id) = LastShows answered calls old new (ShowsRepeated id)
 HasCause answered calls old new _ = Unit {0}

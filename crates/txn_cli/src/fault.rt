@@ -51,9 +51,7 @@ impl Fault {
             Fault::Repeated(_) => 11,
         }
     }
-}
 
-impl Fault {
     /// Whether it is want of memory.
     pub fn is_memory(&self) -> bool
         ensures { IsTrue result ↔ (self.now ≡ Fault.OutOfMemory) }

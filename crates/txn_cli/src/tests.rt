@@ -103,15 +103,11 @@ fn worked_scripts(rt: HostRuntime) -> Result<(), Fail> {
 fn failing_stores(rt: HostRuntime) -> Result<(), Fail> {
     let alloc = rt.alloc();
     for call in 1..30u64 {
-        let played = play(
-            alloc,
-            "run",
-            SCRIPT,
-            Fails {
-                store: call,
-                ..NONE
-            },
-        )?;
+        let fails = Fails {
+            store: call,
+            ..NONE
+        };
+        let played = play(alloc, "run", SCRIPT, fails)?;
         let last = played.written.as_slice().ends_with(b"store fault\n");
         assert_eq!(rt; last, played.status == 5, "{call}");
         assert_eq!(rt; played.status == 0, call > 16, "{call}");

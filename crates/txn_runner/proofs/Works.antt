@@ -74,13 +74,13 @@ call_err {S} {T} {U} {E} tells content place calls faults old new result error f
     let o = subst (λ (r : Result T E). OneCall tells content place calls faults old new r failed) is one in
     record { trail = o.trail; counted = tt; counted_err = o.counted_err; later = o.later; fault = λ same. o.fault (ap Err (same_error error failed same)) }
 
-pub store_refuses : {S : Type 0} (answered : S → Exchange → S → Type 0) (old : S) (id : TxnId) (at : Name) (change : Edit) (new : S) (error : StepError) → IsOfStore error → IsMissed answered old id at change new error
-store_refuses answered old id at change new step.StoreFault h = tt
-store_refuses answered old id at change new step.OutOfMemory h = tt
-store_refuses answered old id at change new step.NoncesSpent h = elim h [ ]
-store_refuses answered old id at change new (step.RevnoSpent key) h = elim h [ ]
-store_refuses answered old id at change new (step.Lost z) h = elim h [ ]
-store_refuses answered old id at change new (step.Clash who where_) h = elim h [ ]
+pub store_refuses : {S : Type 0} (answered : S → Exchange → S → Type 0) (calls : S → ℕ) (old : S) (id : TxnId) (at : Name) (change : Edit) (new : S) (error : StepError) → IsOfStore error → IsMissed answered calls old id at change new error
+store_refuses answered calls old id at change new step.StoreFault h = tt
+store_refuses answered calls old id at change new step.OutOfMemory h = tt
+store_refuses answered calls old id at change new step.NoncesSpent h = elim h [ ]
+store_refuses answered calls old id at change new (step.RevnoSpent key) h = elim h [ ]
+store_refuses answered calls old id at change new (step.Lost z) h = elim h [ ]
+store_refuses answered calls old id at change new (step.Clash who where_) h = elim h [ ]
 
 module _ {S : Type 0} (content : S → Content) (place : S → ℕ → Content) (calls : S → ℕ) where
   pub works_none : (s : S) (id : TxnId) (order : List Entry) → IsSound (content s) → WorksOn content place calls s s order order id

@@ -1,5 +1,5 @@
 -- Why a step is refused, by what the store answered.
-use Rattle.std.specs.Prelude.{◌≡◌, ◌<◌, ◌≤◌, ◌-◌, ℕ, nat_lt, nat_le, true, false, Bool, Option, Some, None, option_and_then, Result, Ok, Err, if◌then◌else◌, unsigned_abs}
+use Rattle.std.specs.Prelude.{◌≡◌, ◌<◌, ◌≤◌, ◌+◌, ◌-◌, ℕ, nat_lt, nat_le, true, false, Bool, Option, Some, None, option_and_then, Result, Ok, Err, if◌then◌else◌, unsigned_abs}
 use Rattle.txn_key.specs.declared.id.TxnId.{TxnId}
 use Rattle.txn_key.specs.declared.key.Key.{Key}
 use Rattle.store_trait.specs.Calls.{Exchange, Reads, Edits, Lists}
@@ -29,15 +29,16 @@ IsOfStore step.OutOfMemory = Unit {0}
 IsOfStore _ = ⊥
 
 -- the store answered an edit with that hit or miss
-pub record AnsweredEdit {S : Type 0} (answered : S → Exchange → S → Type 0) (old : S) (name : Name) (edit : Edit) (hit : Bool) (new : S) : Type 0 where
+pub record AnsweredEdit {S : Type 0} (answered : S → Exchange → S → Type 0) (calls : S → ℕ) (old : S) (name : Name) (edit : Edit) (hit : Bool) (new : S) : Type 0 where
   pub found : Option Cell
+  pub counted : calls new ≡ calls old + 1
   pub answer : answered old (Edits name edit hit found) new
 
 -- Besides the store's own refusals there is one: a record and the cell of a name disagree, where the
 -- edit of it missed.
-abbrev pub IsMissed : {S : Type 0} → (S → Exchange → S → Type 0) → S → TxnId → Name → Edit → S → StepError → Type 0
-IsMissed answered old id name edit new (step.Clash who at) = (who ≡ id) × (at ≡ name) × AnsweredEdit answered old name edit false new
-IsMissed answered old id name edit new error = IsOfStore error
+abbrev pub IsMissed : {S : Type 0} → (S → Exchange → S → Type 0) → (S → ℕ) → S → TxnId → Name → Edit → S → StepError → Type 0
+IsMissed answered calls old id name edit new (step.Clash who at) = (who ≡ id) × (at ≡ name) × AnsweredEdit answered calls old name edit false new
+IsMissed answered calls old id name edit new error = IsOfStore error
 
 -- the cell that a store answered is no document
 abbrev pub is_no_document : Option Cell → Bool
@@ -84,21 +85,20 @@ ShowsRepeated _ _ = ⊥
 
 -- ---- why a step is refused, over a store that tells nothing too
 
--- between two moments of a store a call on it was answered that shows this
-pub record WasAnswered {S : Type 0} (answered : S → Exchange → S → Type 0) (calls : S → ℕ) (old new : S) (Shows : Exchange → Type 0) : Type 0 where
+-- The last call on a store was made since then, and was answered in a way that shows this.
+pub record LastShows {S : Type 0} (answered : S → Exchange → S → Type 0) (calls : S → ℕ) (old new : S) (Shows : Exchange → Type 0) : Type 0 where
   pub before : S
-  pub after : S
   pub exchange : Exchange
-  pub began : calls old ≤ calls before
-  pub ended : calls after ≤ calls new
-  pub answer : answered before exchange after
+  pub since : calls old ≤ calls before
+  pub last : calls new ≡ calls before + 1
+  pub answer : answered before exchange new
   pub shows : Shows exchange
 
--- No nonce is left, or a number is past the last, or a record and a cell disagree: each only where a
--- call was answered so. A record is never found missing.
+-- No nonce is left, or a number is past the last, or a record and a cell disagree: each only where the
+-- last call was answered so. A record is never found missing.
 abbrev pub HasCause : {S : Type 0} → (S → Exchange → S → Type 0) → (S → ℕ) → S → S → TxnId → StepError → Type 0
-HasCause answered calls old new id step.NoncesSpent = WasAnswered answered calls old new ShowsNoNonce
-HasCause answered calls old new id (step.RevnoSpent key) = WasAnswered answered calls old new (ShowsSpentRevno key)
-HasCause answered calls old new id (step.Clash who at) = (who ≡ id) × WasAnswered answered calls old new (ShowsClash id at)
+HasCause answered calls old new id step.NoncesSpent = LastShows answered calls old new ShowsNoNonce
+HasCause answered calls old new id (step.RevnoSpent key) = LastShows answered calls old new (ShowsSpentRevno key)
+HasCause answered calls old new id (step.Clash who at) = (who ≡ id) × LastShows answered calls old new (ShowsClash id at)
 HasCause answered calls old new id (step.Lost _) = ⊥
 HasCause answered calls old new id error = IsOfStore error

@@ -64,7 +64,7 @@ pub fn must_hit<S: Store>(
     ensures left { IsTrue S.tells → is_some (hit change name (get (S.content store.old) name)) ≡ true →
         OnErr result (S.content store.new ≡ S.content store.old) }
     ensures never { IsTrue S.tells → is_some (hit change name (get (S.content store.old) name)) ≡ true → IfErr result IsOfStore }
-    ensures cause { IfErr result (IsMissed S.answered store.old id name change store.new) }
+    ensures cause { IfErr result (IsMissed S.answered S.calls store.old id name change store.new) }
     ensures call { OneCall S.tells S.content S.place S.calls S.faults store.old store.new result StepError.StoreFault }
 {
     match edit(alloc, store, &name, &change) {
@@ -85,7 +85,7 @@ pub fn may_hit<S: Store>(
     ensures hit { IsTrue S.tells → IfOk result
         (λ hits. hits ≡ is_some (hit change name (get (S.content store.old) name))) }
     ensures left { IsTrue S.tells → OnErr result (S.content store.new ≡ S.content store.old) }
-    ensures answered { IfOk result (λ hits. AnsweredEdit S.answered store.old name change hits store.new) }
+    ensures answered { IfOk result (λ hits. AnsweredEdit S.answered S.calls store.old name change hits store.new) }
     ensures kind { IfErr result IsOfStore }
     ensures call { OneCall S.tells S.content S.place S.calls S.faults store.old store.new result StepError.StoreFault }
 {

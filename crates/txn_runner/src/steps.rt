@@ -7,7 +7,7 @@ ghost use Rattle.txn_record.specs.declared.entry.Entry.{Entry as LogEntry};
 ghost use Rattle.txn_record.specs.Revnos.{has_effect};
 ghost use Rattle.store_trait.specs.View.{record_at};
 ghost use Rattle.txn_runner.specs.Calm.{IsCalm};
-ghost use Rattle.txn_runner.specs.Causes.{HasCause, IsOfStore, ShowsRepeated, WasAnswered, drawn_of};
+ghost use Rattle.txn_runner.specs.Causes.{HasCause, IsOfStore, LastShows, ShowsRepeated, drawn_of};
 ghost use Rattle.txn_runner.specs.Settling.{IsWorth, WorksOn, ComesToStage, IsSubmitted, preparing_record};
 ghost use Rattle.txn_runner.specs.Built.{is_built, is_built_change, is_update, updates};
 ghost use Rattle.txn_runner.specs.Numbers.{Uses};
@@ -44,7 +44,7 @@ pub fn submit<S: Store>(alloc: Global, store: &mut S, txn: &Waiting) -> Result<b
     ensures uses { IsTrue S.tells → Uses (S.content store.old) (S.content store.new) 0 0 0 0 }
     ensures kind { IfErr result IsOfStore }
     ensures repeated { IfOk result (λ hits. hits ≡ false →
-        WasAnswered S.answered S.calls store.old store.new (ShowsRepeated txn.now.id)) }
+        LastShows S.answered S.calls store.old store.new (ShowsRepeated txn.now.id)) }
     ensures call { OneCall S.tells S.content S.place S.calls S.faults store.old store.new result StepError.StoreFault }
 {
     let rec = preparing(alloc, txn)?;
