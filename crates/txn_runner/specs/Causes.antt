@@ -2,7 +2,7 @@
 use Rattle.std.specs.Prelude.{◌≡◌, ◌<◌, ◌≤◌, ◌+◌, ◌-◌, ℕ, nat_lt, nat_le, true, false, Bool, Option, Some, None, option_and_then, Result, Ok, Err, if◌then◌else◌, unsigned_abs}
 use Rattle.txn_key.specs.declared.id.TxnId.{TxnId}
 use Rattle.txn_key.specs.declared.key.Key.{Key}
-use Rattle.store_trait.specs.Calls.{Exchange, Reads, Edits, Lists}
+use Rattle.store_trait.specs.Calls.{Exchange, Reads, Edits}
 use Rattle.store_trait.specs.Cells.{as_counter}
 use Rattle.store_trait.specs.declared.cell.Cell.{Cell}
 use Rattle.store_trait.specs.Edits.{nonce_limit}
