@@ -1,12 +1,12 @@
 -- How a call comes from line to line, with what it writes.
-use Rattle.std.proofs.Common.{◌≡◌, ◌≢◌, ℕ, ◌+◌, Bool, false, List, [], ◌++◌, Option, Some, None, Result, Ok, Err, IfErr, IsTrue, ◌⊎◌, ⊎_elim, inl, refl, sym, ap, ◌∙◌, subst}
+use Rattle.std.proofs.Common.{◌≡◌, ◌≢◌, ◌≤◌, ℕ, ◌+◌, arith, Bool, false, List, [], ◌++◌, Option, Some, None, Result, Ok, Err, IfErr, IsTrue, ◌⊎◌, ⊎_elim, inl, refl, sym, ap, ◌∙◌, subst}
 use Rattle.std.specs.FinMap.{empty}
 use Rattle.std.proofs.lemmas.List.{append-nil, append_assoc}
 use Rattle.store_trait.specs.Contents.{Content}
 use Rattle.txn_runner.specs.Calm.{IsCalm}
 use Rattle.txn_cli.specs.Batches.{MayRun}
 use Rattle.txn_io.specs.Lines.{first_line, after_line, line_cost}
-use Rattle.txn_cli.specs.Play.{Progress, opening, Plays, IsRefusedAt, RefusedAs, is_allowed}
+use Rattle.txn_cli.specs.Play.{Progress, opening, Plays, IsRefusedAt, RefusedAs, StandOnTrail, is_allowed}
 use Rattle.txn_cli.specs.Refusals.{IsOfLine, IsUnspent, not_built}
 use Rattle.txn_script.specs.Faults.{fault_text as script_text}
 use Rattle.txn_script.specs.declared.fault.ScriptFault.TheVariants.{NotBuilt}
@@ -22,7 +22,7 @@ use Rattle.txn_cli.specs.declared.done.Run.{Run}
 use Rattle.txn_cli.specs.declared.fault.Fault.{Fault}
 use Rattle.txn_cli.specs.declared.fault.Fault.TheVariants as fault
 use Rattle.txn_cli.specs.declared.session.Session.{Session}
-use Rattle.txn_cli.proofs.Playing.{one_more, ends}
+use Rattle.txn_cli.proofs.Playing.{one_more, ends, stand_still}
 use Rattle.txn_cli.proofs.Sessions.{opens_calm, nothing_waits}
 
 -- ---- as the call begins
@@ -44,28 +44,33 @@ module _ {S : Type 0} (content : S → Content) (place : S → ℕ → Content) 
       }
 
 module _ {S : Type 0} (content : S → Content) (old new : Session S) (script : List ℕ) (sink_tells : Bool) (written : List ℕ) (begins : at content old [] ≡ opening (content old.store)) where
-  pub begins_come : content new.store ≡ content old.store → new.batch ≡ old.batch → new.runs.items ≡ old.runs.items → new.begun ≡ old.begun → HasCome content script (opening (content old.store)) 0 0 script new sink_tells written written
-  begins_come same batch runs begun = record {
+  pub begins_come : (place : ℕ → Content) (from to : ℕ) → from ≤ to → content new.store ≡ content old.store → new.batch ≡ old.batch → new.runs.items ≡ old.runs.items → new.begun ≡ old.begun → HasCome content place from to script (opening (content old.store)) 0 0 script new sink_tells written written
+  begins_come place from to le same batch runs begun = record {
     printed = [];
-    plays = record { plays = subst (λ (p : Progress). Plays script (opening (content old.store)) 0 p) (sym (still ∙ begins)) Plays.Opens; rest = refl; taken = refl };
+    plays = record { plays = opened.0; rest = refl; taken = refl };
+    stand = opened.1;
     writes = λ told. sym (append-nil written);
   }
     where
       still : at content new [] ≡ at content old []
       still = λ i. record { content = same i; waiting = batch i; begun = begun i; runs = runs i; printed = [] }
 
-pub begins_stopped : (script : List ℕ) (start : Progress) (why : Fault) (runs : List Run) (sink_tells : Bool) (written : List ℕ) → start.printed ≡ [] → runs ≡ start.runs → IsUnspent why → HasStopped script start why runs sink_tells written written
-begins_stopped script start why runs sink_tells written none kept unspent = record { done = 0; last = start; plays = Plays.Opens; kept = inl kept; unspent = unspent; writes = λ told other. sym (ap (λ (l : List ℕ). written ++ l) none ∙ append-nil written) }
+      opened : (plays : Plays script (opening (content old.store)) 0 (at content new [])) × StandOnTrail place from to plays
+      opened = subst (λ (p : Progress). (plays : Plays script (opening (content old.store)) 0 p) × StandOnTrail place from to plays) (sym (still ∙ begins)) (Plays.Opens, le)
+
+pub begins_stopped : (script : List ℕ) (start : Progress) (place : ℕ → Content) (from to : ℕ) (why : Fault) (runs : List Run) (sink_tells : Bool) (written : List ℕ) → from ≤ to → start.printed ≡ [] → runs ≡ start.runs → IsUnspent why → HasStopped script start place from to why runs sink_tells written written
+begins_stopped script start place from to why runs sink_tells written le none kept unspent = record { done = 0; last = start; plays = Plays.Opens; stand = le; kept = inl kept; unspent = unspent; writes = λ told other. sym (ap (λ (l : List ℕ). written ++ l) none ∙ append-nil written) }
 
 -- the last line of a refusal was written, or another refusal came
-pub refuses_out : (script : List ℕ) (start : Progress) (why told : Fault) (runs : List Run) (sink_tells : Bool) (old_written written now : List ℕ) (rose : Type 0) → HasStopped script start why runs sink_tells old_written written
+pub refuses_out : (script : List ℕ) (start : Progress) (place : ℕ → Content) (from to : ℕ) (why told : Fault) (runs : List Run) (sink_tells : Bool) (old_written written now : List ℕ) (rose : Type 0) → HasStopped script start place from to why runs sink_tells old_written written
     → (told ≡ why) ⊎ (told ≡ fault.OutOfMemory) ⊎ ((told ≡ fault.Output) × rose)
     → (IsTrue sink_tells → told ≢ fault.Output → told ≢ fault.OutOfMemory → now ≡ written ++ fault_text told)
-    → HasRefused script start told runs sink_tells old_written now
-refuses_out script start why told runs sink_tells old_written written now rose h kept wrote = record {
+    → HasRefused script start place from to told runs sink_tells old_written now
+refuses_out script start place from to why told runs sink_tells old_written written now rose h kept wrote = record {
   done = h.done;
   last = h.last;
   plays = h.plays;
+  stand = h.stand;
   kept = h.kept;
   unspent = ⊎_elim
       (λ same. subst IsUnspent (sym same) h.unspent)
@@ -126,32 +131,36 @@ misread_line content session line number why f read is = ⊎_elim
 
 -- ---- from line to line
 
-module _ {S : Type 0} (content : S → Content) (script : List ℕ) (start : Progress) (n taken : ℕ) (input : List ℕ) (session : Session S) (sink_tells : Bool) (old_written written : List ℕ) where
-  pub stops : (why : Fault) (runs : List Run) (now : List ℕ) → HasCome content script start n taken input session sink_tells old_written written → GrowsByOne session.runs.items runs → IsUnspent why → (IsTrue sink_tells → why ≢ fault.Output → now ≡ written)
-      → HasStopped script start why runs sink_tells old_written now
-  stops why runs now h kept unspent unwritten = record { done = n; last = at content session h.printed; plays = h.plays.plays; kept = kept; unspent = unspent; writes = λ told other. unwritten told other ∙ h.writes told }
+-- The trail goes on from one moment to the next.
+module _ {S : Type 0} (content : S → Content) (place next_place : ℕ → Content) (from to next_to : ℕ) (script : List ℕ) (start : Progress) (n taken : ℕ) (input : List ℕ) (session : Session S) (sink_tells : Bool) (old_written written : List ℕ)
+    (before : (k : ℕ) → k ≤ to → next_place k ≡ place k) (later : to ≤ next_to) where
+  pub stops : (why : Fault) (runs : List Run) (now : List ℕ) → HasCome content place from to script start n taken input session sink_tells old_written written → GrowsByOne session.runs.items runs → IsUnspent why → (IsTrue sink_tells → why ≢ fault.Output → now ≡ written)
+      → HasStopped script start next_place from next_to why runs sink_tells old_written now
+  stops why runs now h kept unspent unwritten = record { done = n; last = at content session h.printed; plays = h.plays.plays; stand = stand_still place next_place from to next_to h.plays.plays before later h.stand; kept = kept; unspent = unspent; writes = λ told other. unwritten told other ∙ h.writes told }
 
   -- the same, of how the batch that waits at the end is run
-  pub stops_at_end : (result : Result (Unit {0}) Fault) (runs : List Run) (now : List ℕ) → HasCome content script start n taken input session sink_tells old_written written → GrowsByOne session.runs.items runs → IfErr result IsUnspent → (IsTrue sink_tells → IfErr result (λ f. f ≢ fault.Output → now ≡ written))
-      → IfErr result (λ f. HasStopped script start f runs sink_tells old_written now)
+  pub stops_at_end : (result : Result (Unit {0}) Fault) (runs : List Run) (now : List ℕ) → HasCome content place from to script start n taken input session sink_tells old_written written → GrowsByOne session.runs.items runs → IfErr result IsUnspent → (IsTrue sink_tells → IfErr result (λ f. f ≢ fault.Output → now ≡ written))
+      → IfErr result (λ f. HasStopped script start next_place from next_to f runs sink_tells old_written now)
   stops_at_end (Ok x) runs now h kept unspent unwritten = tt
   stops_at_end (Err f) runs now h kept unspent unwritten = stops f runs now h kept unspent unwritten
 
-  pub plays_out : (next : Session S) (now : List ℕ) → HasCome content script start n taken input session sink_tells old_written written → first_line input ≡ None
-      → HasRunRest content session next sink_tells written now → HasPlayed script start (content next.store) next.runs.items sink_tells old_written now
+  pub plays_out : (next : Session S) (now : List ℕ) → HasCome content place from to script start n taken input session sink_tells old_written written → first_line input ≡ None
+      → HasRunRest content session next sink_tells written now → HasPlayed script start (content next.store) next_place from next_to next.runs.items sink_tells old_written now
   plays_out next now h none rest = record {
     end = at content next (h.printed ++ rest.lines);
     plays = ends script start n taken input (at content session h.printed) (at content next (h.printed ++ rest.lines)) h.plays none (rest.runs h.printed);
+    stand = stand_still place next_place from to next_to h.plays.plays before later h.stand;
     holds = refl;
     kept = refl;
     writes = λ told. rest.writes told ∙ ap (λ (l : List ℕ). l ++ rest.lines) (h.writes told) ∙ append_assoc old_written h.printed rest.lines;
   }
 
-  pub comes_further : (next : Session S) (now : List ℕ) (line : List ℕ) (new_taken : ℕ) (new_input : List ℕ) → HasCome content script start n taken input session sink_tells old_written written → first_line input ≡ Some line
-      → HasDoneLine content line session next sink_tells written now → new_input ≡ after_line input → new_taken ≡ taken + line_cost input
-      → HasCome content script start (n + 1) new_taken new_input next sink_tells old_written now
-  comes_further next now line new_taken new_input h first does rest cost = record {
+  pub comes_further : (next : Session S) (now : List ℕ) (line : List ℕ) (new_taken : ℕ) (new_input : List ℕ) → HasCome content place from to script start n taken input session sink_tells old_written written → first_line input ≡ Some line
+      → HasDoneLine content line session next sink_tells written now → new_input ≡ after_line input → new_taken ≡ taken + line_cost input → next_place next_to ≡ content next.store
+      → HasCome content next_place from next_to script start (n + 1) new_taken new_input next sink_tells old_written now
+  comes_further next now line new_taken new_input h first does rest cost here = record {
     printed = h.printed ++ does.lines;
     plays = one_more script start n taken input (at content session h.printed) (at content next (h.printed ++ does.lines)) line new_taken new_input h.plays first (does.plays h.printed) rest cost;
+    stand = (next_to, stand_still place next_place from to next_to h.plays.plays before later h.stand, omega arith, here);
     writes = λ told. does.writes told ∙ ap (λ (l : List ℕ). l ++ does.lines) (h.writes told) ∙ append_assoc old_written h.printed does.lines;
   }

@@ -1,4 +1,4 @@
-use Rattle.std.specs.Prelude.{◌≡◌, ℕ, zero, suc, ◌+◌, ◌&&◌, Bool, true, false, not, nat_lt, pos, List, [], ◌∷◌, ◌++◌, length, Option, Some, None, is_none, Result, Ok, Err, codes}
+use Rattle.std.specs.Prelude.{◌≡◌, ◌≤◌, ℕ, zero, suc, ◌+◌, ◌&&◌, Bool, true, false, not, nat_lt, pos, List, [], ◌∷◌, ◌++◌, length, Option, Some, None, is_none, Result, Ok, Err, codes}
 use Rattle.std.specs.FinMap.{insert}
 use Rattle.std.specs.List.{list_all}
 use Rattle.doc_value.specs.declared.value.Value.{Value}
@@ -139,6 +139,12 @@ after_lines (suc n) script = after_line (after_lines n script)
 pub data Plays (script : List ℕ) (opening : Progress) : ℕ → Progress → Type 0 where
   Opens : Plays script opening 0 opening
   Then : (n : ℕ) (line : List ℕ) (p q : Progress) → Plays script opening n p → first_line (after_lines n script) ≡ Some line → PlaysLine line p q → Plays script opening (n + 1) q
+
+-- After each line that was done, what the store held stands at a place of the trail. These places never
+-- fall, from that of the opening content on.
+abbrev pub StandOnTrail : {script : List ℕ} {opening : Progress} {n : ℕ} {p : Progress} → (ℕ → Content) → ℕ → ℕ → Plays script opening n p → Type 0
+StandOnTrail place from to Plays.Opens = from ≤ to
+StandOnTrail place from to (Plays.Then n line p q plays first did) = (at : ℕ) × StandOnTrail place from at plays × (at ≤ to) × (place at ≡ q.content)
 
 -- how many bytes the first n lines of a script take, their newlines among them
 abbrev pub taken_by : ℕ → List ℕ → ℕ

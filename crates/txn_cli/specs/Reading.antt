@@ -3,7 +3,7 @@ use Rattle.std.specs.FinMap.{empty}
 use Rattle.store_trait.specs.Calls.{CallsGoOn}
 use Rattle.store_trait.specs.Contents.{Content}
 use Rattle.txn_io.specs.Lines.{LinesView}
-use Rattle.txn_cli.specs.Play.{Progress, opening, IsAt, IsPlayed, Plays, PlaysLine, RunsWaiting}
+use Rattle.txn_cli.specs.Play.{Progress, opening, IsAt, IsPlayed, Plays, PlaysLine, RunsWaiting, StandOnTrail}
 use Rattle.txn_cli.specs.Refusals.{IsUnspent}
 use Rattle.txn_cli.specs.Runs.{GrowsByOne}
 use Rattle.txn_cli.specs.Sessions.{IsHeld, at}
@@ -14,9 +14,10 @@ use Rattle.txn_cli.specs.declared.done.Run.{Run}
 use Rattle.txn_cli.specs.declared.session.Session.{Session}
 
 -- the first lines of a script were done, up to where the session is, and what they print was written
-pub record HasCome {S : Type 0} (content : S → Content) (script : List ℕ) (start : Progress) (done taken : ℕ) (left : List ℕ) (session : Session S) (sink_tells : Bool) (old_written written : List ℕ) : Type 0 where
+pub record HasCome {S : Type 0} (content : S → Content) (place : ℕ → Content) (from to : ℕ) (script : List ℕ) (start : Progress) (done taken : ℕ) (left : List ℕ) (session : Session S) (sink_tells : Bool) (old_written written : List ℕ) : Type 0 where
   pub printed : List ℕ
   pub plays : IsAt script start done taken left (at content session printed)
+  pub stand : StandOnTrail place from to plays.plays
   pub writes : IsTrue sink_tells → written ≡ old_written ++ printed
 
 -- What holds between two lines of a script, since the call began: so many lines were done.
@@ -30,7 +31,7 @@ pub record IsReading {S I O : Type 0} (store_tells source_tells sink_tells : Boo
   pub was_empty : IsTrue store_tells → content old.store ≡ empty → IsTrue new.was_empty
   pub only_empty : IsTrue store_tells → IsTrue new.was_empty → content old.store ≡ empty
   pub held : IsTrue store_tells → content old.store ≡ empty → IsHeld content place calls new
-  pub come : IsTrue source_tells → IsTrue store_tells → content old.store ≡ empty → HasCome content (rest old_input) (opening (content old.store)) done lines.taken (lines.pending ++ rest input) new sink_tells (written old_output) (written output)
+  pub come : IsTrue source_tells → IsTrue store_tells → content old.store ≡ empty → HasCome content (place new.store) (calls old.store) (calls new.store) (rest old_input) (opening (content old.store)) done lines.taken (lines.pending ++ rest input) new sink_tells (written old_output) (written output)
 
 -- a line was done, and what it prints was written
 pub record HasDoneLine {S : Type 0} (content : S → Content) (line : List ℕ) (old new : Session S) (sink_tells : Bool) (old_written written : List ℕ) : Type 0 where
@@ -44,33 +45,36 @@ pub record HasRunRest {S : Type 0} (content : S → Content) (old new : Session 
   pub runs : (printed : List ℕ) → RunsWaiting old.batch (at content old printed) (at content new (printed ++ lines))
   pub writes : IsTrue sink_tells → written ≡ old_written ++ lines
 
--- every line of a script was done, over a store that holds this now, with these Runs; and what the lines
--- print was written, in order
-pub record HasPlayed (script : List ℕ) (start : Progress) (content : Content) (runs : List Run) (sink_tells : Bool) (old_written written : List ℕ) : Type 0 where
+-- Every line of a script was done, over a store that holds this now, with these Runs. What it held after
+-- each line stands on its trail, and what the lines print was written, in order.
+pub record HasPlayed (script : List ℕ) (start : Progress) (content : Content) (place : ℕ → Content) (from to : ℕ) (runs : List Run) (sink_tells : Bool) (old_written written : List ℕ) : Type 0 where
   pub end : Progress
   pub plays : IsPlayed script start end
+  pub stand : StandOnTrail place from to plays.plays
   pub holds : end.content ≡ content
   pub kept : end.runs ≡ runs
   pub writes : IsTrue sink_tells → written ≡ old_written ++ end.printed
 
 -- some first lines of a script were done, and what they print was written, and nothing else; the Runs
 -- are theirs, and one more where the next line was refused while its batch ran
-pub record HasStopped (script : List ℕ) (start : Progress) (why : Fault) (runs : List Run) (sink_tells : Bool) (old_written written : List ℕ) : Type 0 where
+pub record HasStopped (script : List ℕ) (start : Progress) (place : ℕ → Content) (from to : ℕ) (why : Fault) (runs : List Run) (sink_tells : Bool) (old_written written : List ℕ) : Type 0 where
   pub done : ℕ
   pub last : Progress
   pub plays : Plays script start done last
+  pub stand : StandOnTrail place from to plays
   pub kept : GrowsByOne last.runs runs
   pub unspent : IsUnspent why
   pub writes : IsTrue sink_tells → why ≢ fault.Output → written ≡ old_written ++ last.printed
 
--- Some first lines of a script were done, and the call ended with a refusal: the Runs are theirs, and one
--- more where the next line was refused while its batch ran; no nonce or number was wanting; what the lines
--- print was written, and the line of the refusal. After a fault of the output, or for want of memory, less may be
--- written.
-pub record HasRefused (script : List ℕ) (start : Progress) (why : Fault) (runs : List Run) (sink_tells : Bool) (old_written written : List ℕ) : Type 0 where
+-- Some first lines of a script were done, and the call ended with a refusal: what the store held after each
+-- stands on its trail; the Runs are theirs, and one more where the next line was refused while its batch ran;
+-- no nonce or number was wanting; what the lines print was written, and the line of the refusal. After a fault
+-- of the output, or for want of memory, less may be written.
+pub record HasRefused (script : List ℕ) (start : Progress) (place : ℕ → Content) (from to : ℕ) (why : Fault) (runs : List Run) (sink_tells : Bool) (old_written written : List ℕ) : Type 0 where
   pub done : ℕ
   pub last : Progress
   pub plays : Plays script start done last
+  pub stand : StandOnTrail place from to plays
   pub kept : GrowsByOne last.runs runs
   pub unspent : IsUnspent why
   pub writes : IsTrue sink_tells → why ≢ fault.Output → why ≢ fault.OutOfMemory → written ≡ old_written ++ (last.printed ++ fault_text why)

@@ -51,12 +51,12 @@ pub fn command<S: Store, I: Source, O: Sink>(
     // is refused; and any refusal that the lines before it were done.
     ensures played { IsTrue I.tells → IsTrue S.tells → S.content store ≡ empty → IfNone result.fault
         (HasPlayed (I.rest input.old) (opening (S.content store))
-        (S.content result.store) result.runs.items O.tells (O.written output.old) (O.written output.new)) }
+        (S.content result.store) (S.place result.store) (S.calls store) (S.calls result.store) result.runs.items O.tells (O.written output.old) (O.written output.new)) }
     ensures line { IsTrue I.tells → IsTrue S.tells → S.content store ≡ empty → IfSome result.fault
         (λ fault. IsOfLine fault → Refuses (I.rest input.old) (opening (S.content store)) fault) }
     ensures refused { IsTrue I.tells → IsTrue S.tells → S.content store ≡ empty → IfSome result.fault
         (λ fault. HasRefused (I.rest input.old) (opening (S.content store))
-        fault result.runs.items O.tells (O.written output.old) (O.written output.new)) }
+        (S.place result.store) (S.calls store) (S.calls result.store) fault result.runs.items O.tells (O.written output.old) (O.written output.new)) }
 
     // However the call ended, each Run is faithful up to the mark of the next, or to the last call: at
     // every place of the trail the store is sound and means the Run's base after the decisions so far.
@@ -130,11 +130,13 @@ fn run<S: Store, I: Source, O: Sink>(
     ensures usage { is_grammar (map string_bytes words.now) ≡ false → result ≡ Err Fault.Words }
     ensures played { IsTrue I.tells → IsTrue S.tells → S.content session.old.store ≡ empty → OnOk result
         (HasPlayed (I.rest input.old) (opening (S.content session.old.store))
-        (S.content session.new.store) session.new.runs.items O.tells (O.written output.old) (O.written output.new)) }
+        (S.content session.new.store) (S.place session.new.store) (S.calls session.old.store) (S.calls session.new.store)
+        session.new.runs.items O.tells (O.written output.old) (O.written output.new)) }
     ensures line { IsTrue I.tells → IsTrue S.tells → S.content session.old.store ≡ empty → IfErr result
         (λ fault. IsOfLine fault → Refuses (I.rest input.old) (opening (S.content session.old.store)) fault) }
     ensures stopped { IsTrue I.tells → IsTrue S.tells → S.content session.old.store ≡ empty → IfErr result
         (λ fault. HasStopped (I.rest input.old) (opening (S.content session.old.store))
+        (S.place session.new.store) (S.calls session.old.store) (S.calls session.new.store)
         fault session.new.runs.items O.tells (O.written output.old) (O.written output.new)) }
     ensures runs { IsTrue S.tells → S.content session.old.store ≡ empty →
         RunsGoOn (S.place session.new.store) session.new.runs.items (S.calls session.new.store) }
@@ -204,11 +206,13 @@ fn play<S: Store, I: Source, O: Sink>(
     requires begins { at S.content session.old [] ≡ opening (S.content session.old.store) }
     ensures played { IsTrue I.tells → IsTrue S.tells → S.content session.old.store ≡ empty → OnOk result
         (HasPlayed (I.rest input.old) (opening (S.content session.old.store))
-        (S.content session.new.store) session.new.runs.items O.tells (O.written output.old) (O.written output.new)) }
+        (S.content session.new.store) (S.place session.new.store) (S.calls session.old.store) (S.calls session.new.store)
+        session.new.runs.items O.tells (O.written output.old) (O.written output.new)) }
     ensures line { IsTrue I.tells → IsTrue S.tells → S.content session.old.store ≡ empty → IfErr result
         (λ fault. IsOfLine fault → Refuses (I.rest input.old) (opening (S.content session.old.store)) fault) }
     ensures stopped { IsTrue I.tells → IsTrue S.tells → S.content session.old.store ≡ empty → IfErr result
         (λ fault. HasStopped (I.rest input.old) (opening (S.content session.old.store))
+        (S.place session.new.store) (S.calls session.old.store) (S.calls session.new.store)
         fault session.new.runs.items O.tells (O.written output.old) (O.written output.new)) }
     ensures runs { IsTrue S.tells → S.content session.old.store ≡ empty →
         RunsGoOn (S.place session.new.store) session.new.runs.items (S.calls session.new.store) }

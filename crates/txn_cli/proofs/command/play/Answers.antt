@@ -19,7 +19,7 @@ loop-done-init g c = rw c.new-lines.ensures (record {
   was_empty = λ told e. c.in_ok-session.ensures.empty told e;
   only_empty = λ told was. c.in_ok-session.ensures.only told was;
   held = λ told e. begins_held g.S.Store.content g.S.Store.place g.S.Store.calls c.args.session.now _ c.requires.begins e (c.in_ok-session.ensures.same told) refl refl refl;
-  come = λ src told e. begins_come g.S.Store.content c.args.session.now _ (g.I.Source.rest c.args.input.now) g.O.Sink.tells (g.O.Sink.written c.args.output.now) c.requires.begins (c.in_ok-session.ensures.same told) refl refl refl;
+  come = λ src told e. begins_come g.S.Store.content c.args.session.now _ (g.I.Source.rest c.args.input.now) g.O.Sink.tells (g.O.Sink.written c.args.output.now) c.requires.begins _ _ _ c.in_ok-session.ensures.calls.counted (c.in_ok-session.ensures.same told) refl refl refl;
 })
 
 pub returns-in_err-play_line-in-Ok-Some-clause-line : goal.returns-in_err-play_line-in-Ok-Some-clause-line
@@ -32,7 +32,7 @@ returns-in_err-play_line-in-Ok-Some-clause-line g c = λ src told e.
 pub returns-in_err-play_line-in-Ok-Some-clause-stopped : goal.returns-in_err-play_line-in-Ok-Some-clause-stopped
 returns-in_err-play_line-in-Ok-Some-clause-stopped g c = λ src told e.
     let p = err_from_is_err_and c.from_residual-in_err-play_line-in-Ok-Some.result c.from_residual-in_err-play_line-in-Ok-Some.ensures.1 in
-    rw (p.1, p.2) (stops _ _ _ _ _ _ _ _ _ _ _ _ _ (c.loop-done.invariant.come src told e) c.in_err-play_line-in-Ok-Some.ensures.grown (c.in_err-play_line-in-Ok-Some.ensures.enough told (c.loop-done.invariant.was_empty told e) (suffices_at _ _ e _ _ (c.loop-done.invariant.come src told e).plays.plays (omega (arith, c.loop-done.invariant.counted, c.loop-done.invariant.within)))) (λ tells other. c.in_err-play_line-in-Ok-Some.ensures.unwritten tells other))
+    rw (p.1, p.2) (stops _ _ _ _ _ _ _ _ _ _ _ _ _ _ _ (c.in_err-play_line-in-Ok-Some.ensures.calls.trail told).before c.in_err-play_line-in-Ok-Some.ensures.calls.counted _ _ _ (c.loop-done.invariant.come src told e) c.in_err-play_line-in-Ok-Some.ensures.grown (c.in_err-play_line-in-Ok-Some.ensures.enough told (c.loop-done.invariant.was_empty told e) (suffices_at _ _ e _ _ (c.loop-done.invariant.come src told e).plays.plays (omega (arith, c.loop-done.invariant.counted, c.loop-done.invariant.within)))) (λ tells other. c.in_err-play_line-in-Ok-Some.ensures.unwritten tells other))
 
 pub returns-in_err-play_line-in-Ok-Some-clause-runs : goal.returns-in_err-play_line-in-Ok-Some-clause-runs
 returns-in_err-play_line-in-Ok-Some-clause-runs g c = λ told e. c.in_err-play_line-in-Ok-Some.ensures.runs told (c.loop-done.invariant.was_empty told e)
@@ -45,10 +45,10 @@ returns-in_err-play_line-in-Ok-Some-clause-reason g c = λ told e.
 pub returns-in-Ok-None-clause-played : goal.returns-in-Ok-None-clause-played
 returns-in-Ok-None-clause-played g c = λ src told e.
     let none = line_read _ _ _ (rw c.in-Ok-None.field-0-is at (c.in-Ok-None.ensures.line src)) in
-    on_ok c.finish.result _ _ (c.finish.ensures.done told (c.loop-done.invariant.was_empty told e)) (λ runs. plays_out _ _ _ _ _ _ _ _ _ _ _ _ (c.loop-done.invariant.come src told e) none runs)
+    on_ok c.finish.result _ _ (c.finish.ensures.done told (c.loop-done.invariant.was_empty told e)) (λ runs. plays_out _ _ _ _ _ _ _ _ _ _ _ _ _ _ _ (c.finish.ensures.calls.trail told).before c.finish.ensures.calls.counted _ _ (c.loop-done.invariant.come src told e) none runs)
 
 pub returns-in-Ok-None-clause-stopped : goal.returns-in-Ok-None-clause-stopped
-returns-in-Ok-None-clause-stopped g c = λ src told e. stops_at_end _ _ _ _ _ _ _ _ _ _ _ _ _ (c.loop-done.invariant.come src told e) c.finish.ensures.grown (c.finish.ensures.enough told (c.loop-done.invariant.was_empty told e) (suffices_at _ _ e _ _ (c.loop-done.invariant.come src told e).plays.plays (omega (arith, c.loop-done.invariant.counted, c.loop-done.invariant.within)))) c.finish.ensures.unwritten
+returns-in-Ok-None-clause-stopped g c = λ src told e. stops_at_end _ _ _ _ _ _ _ _ _ _ _ _ _ _ _ (c.finish.ensures.calls.trail told).before c.finish.ensures.calls.counted _ _ _ (c.loop-done.invariant.come src told e) c.finish.ensures.grown (c.finish.ensures.enough told (c.loop-done.invariant.was_empty told e) (suffices_at _ _ e _ _ (c.loop-done.invariant.come src told e).plays.plays (omega (arith, c.loop-done.invariant.counted, c.loop-done.invariant.within)))) c.finish.ensures.unwritten
 
 pub returns-in-Ok-None-clause-runs : goal.returns-in-Ok-None-clause-runs
 returns-in-Ok-None-clause-runs g c = λ told e. c.finish.ensures.runs told (c.loop-done.invariant.was_empty told e)
@@ -57,7 +57,7 @@ pub returns-in-Ok-None-clause-reason : goal.returns-in-Ok-None-clause-reason
 returns-in-Ok-None-clause-reason g c = λ told e. c.finish.ensures.reason told (c.loop-done.invariant.was_empty told e)
 
 pub returns-in-Err-clause-stopped : goal.returns-in-Err-clause-stopped
-returns-in-Err-clause-stopped g c = λ src told e. stops _ _ _ _ _ _ _ _ _ _ _ _ _ (c.loop-done.invariant.come src told e) (inl refl) c.line_fault.ensures.unspent (λ tells other. refl)
+returns-in-Err-clause-stopped g c = λ src told e. stops _ _ _ _ _ _ _ _ _ _ _ _ _ _ _ (λ k low. refl) (omega arith) _ _ _ (c.loop-done.invariant.come src told e) (inl refl) c.line_fault.ensures.unspent (λ tells other. refl)
 
 pub returns-in-Err-clause-runs : goal.returns-in-Err-clause-runs
 returns-in-Err-clause-runs g c = λ told e. (c.loop-done.invariant.held told e).runs
@@ -87,7 +87,7 @@ loop-done-preserved g c =
       held = λ told e. c.in_ok-play_line-in-Ok-Some.ensures.held told (c.loop-done.invariant.was_empty told e);
       come = λ src told e.
           let first = line_read _ _ _ (rw c.in-Ok-Some.field-0-is at (c.in-Ok-Some.ensures.line src)) in
-          comes_further _ _ _ _ _ _ _ _ _ _ _ _ _ _ _ (c.loop-done.invariant.come src told e) first (rw c.as_slice.ensures.value at (c.in_ok-play_line-in-Ok-Some.ensures.done told (c.loop-done.invariant.was_empty told e))) (c.in-Ok-Some.ensures.rest src) (c.in-Ok-Some.ensures.taken src);
+          comes_further _ _ _ _ _ _ _ _ _ _ _ _ _ _ _ (c.in_ok-play_line-in-Ok-Some.ensures.calls.trail told).before c.in_ok-play_line-in-Ok-Some.ensures.calls.counted _ _ _ _ _ (c.loop-done.invariant.come src told e) first (rw c.as_slice.ensures.value at (c.in_ok-play_line-in-Ok-Some.ensures.done told (c.loop-done.invariant.was_empty told e))) (c.in-Ok-Some.ensures.rest src) (c.in-Ok-Some.ensures.taken src) (c.in_ok-play_line-in-Ok-Some.ensures.calls.trail told).here;
     }
 
 pub play_line-requires : goal.play_line-requires
@@ -99,7 +99,7 @@ finish-requires g c = record { held = λ told was. c.loop-done.invariant.held to
 pub returns-in_err-session-clause-stopped : goal.returns-in_err-session-clause-stopped
 returns-in_err-session-clause-stopped g c = λ src told e.
     let p = err_from_is_err_and c.from_residual.result c.from_residual.ensures.1 in
-    rw (p.1, p.2) (begins_stopped _ _ _ _ _ _ refl (ap (λ (p : Progress). p.runs) c.requires.begins) (of_store_unspent _ c.in_err-session.ensures.kind))
+    rw (p.1, p.2) (begins_stopped _ _ _ _ _ _ _ _ _ c.in_err-session.ensures.calls.counted refl (ap (λ (p : Progress). p.runs) c.requires.begins) (of_store_unspent _ c.in_err-session.ensures.kind))
 
 pub returns-in_err-play_line-in-Ok-Some-clause-cause : goal.returns-in_err-play_line-in-Ok-Some-clause-cause
 returns-in_err-play_line-in-Ok-Some-clause-cause g c =
