@@ -1,18 +1,13 @@
 use Rattle.std.specs.Prelude.{ℕ, List, [], ◌∷◌, ◌++◌, codes}
-use Rattle.std.specs.Fmt.{decimal, signed_decimal}
-use Rattle.json.specs.Print.{quoted}
+use Rattle.std.specs.Fmt.{decimal}
 use Rattle.std.specs.List.{flat_map}
 use Rattle.std.specs.FinMap.{entries}
-use Rattle.doc_value.specs.Printing.{compact}
-use Rattle.doc_value.specs.declared.value.Value.{Value}
-use Rattle.doc_value.specs.declared.doc_id.DocId.{DocId}
-use Rattle.doc_value.specs.declared.doc_id.DocId.TheVariants as doc_id
 use Rattle.txn_key.specs.Documents.{Docs}
 use Rattle.txn_key.specs.Ids.{id_text, token_text}
 use Rattle.txn_key.specs.declared.id.TxnId.{TxnId}
-use Rattle.txn_key.specs.declared.key.Key.{Key}
 use Rattle.txn_record.specs.declared.state.State.{State}
 use Rattle.txn_record.specs.declared.state.State.TheVariants as state
+use Rattle.txn_script.specs.Printing.{document_line, key_text}
 use Rattle.txn_cli.specs.declared.fault.Fault.{Fault}
 use Rattle.txn_cli.specs.declared.fault.Fault.TheVariants as fault
 use Rattle.txn_runner.specs.declared.error.StepError.{StepError}
@@ -20,14 +15,6 @@ use Rattle.txn_runner.specs.declared.error.StepError.TheVariants as step
 
 abbrev pub line : List ℕ → List ℕ
 line text = text ++ 10 ∷ []
-
-abbrev pub id_json : DocId → List ℕ
-id_json (doc_id.Text text) = quoted text
-id_json (doc_id.Int number) = signed_decimal number
-
--- collection and id as JSON, and the body, with blanks between
-abbrev pub document_line : Key × Value → List ℕ
-document_line doc = line (quoted doc.0.c ++ codes " " ++ id_json doc.0.d ++ codes " " ++ compact doc.1)
 
 -- a line for each document, in the order of keys
 abbrev pub documents_text : Docs → List ℕ
@@ -53,7 +40,7 @@ usage_text = codes "usage: txn run [--db FILE] [--log FILE] | txn race [--log FI
 abbrev pub step_text : StepError → List ℕ
 step_text step.StoreFault = codes "store fault\n"
 step_text step.NoncesSpent = codes "nonces spent\n"
-step_text (step.RevnoSpent key) = line (codes "revno spent at doc " ++ quoted key.c ++ codes " " ++ id_json key.d)
+step_text (step.RevnoSpent key) = line (codes "revno spent at doc " ++ key_text key)
 step_text (step.Lost token) = line (codes "lost " ++ token_text token)
 step_text (step.Clash id at) = line (codes "clash " ++ id_text id)
 step_text step.OutOfMemory = codes "out of memory\n"

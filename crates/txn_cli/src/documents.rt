@@ -11,16 +11,17 @@ ghost use Rattle.txn_cli.specs.Listing.{StandsPast, IsNext, next_as};
 ghost use Rattle.txn_runner.specs.Causes.{IsOfStore};
 ghost use Rattle.txn_cli.specs.Refusals.{HasReason, IsOfRun, IsUnspent};
 ghost use Rattle.txn_runner.specs.Running.{OnlyReads};
-ghost use Rattle.txn_cli.specs.Texts.{document_line, documents_text};
+ghost use Rattle.txn_cli.specs.Texts.{documents_text};
+ghost use Rattle.txn_script.specs.Printing.{document_line};
 
 use crate::fault::{Fault, fault_of};
-use crate::print::push_document;
 use doc_value::OutOfMemory;
 use std::alloc::Global;
 use store_laws::bodies_as_they_lie;
 use store_trait::{Cell, Name, Named, Store, StoreError};
 use txn_key::{Doc, Docs, TxnId, documents_rise};
 use txn_runner::StepError;
+use txn_script::push_document;
 
 /// Prints the documents of the store, in the order of their keys.
 pub fn push_documents<S: Store>(

@@ -2,37 +2,15 @@
 
 ghost use Rattle.std.specs.Prelude.{◌≡◌, ◌++◌, OnOk, IfOk};
 ghost use Rattle.txn_runner.specs.Settling.{settled_state};
-ghost use Rattle.txn_cli.specs.Texts.{document_line, id_json, state_line, state_word, fault_text, step_text};
+ghost use Rattle.txn_cli.specs.Texts.{state_line, state_word, fault_text, step_text};
 
 use crate::fault::Fault;
-use doc_value::{DocId, OutOfMemory, Value, push_text, push_value};
+use doc_value::OutOfMemory;
 use std::alloc::Global;
-use txn_key::{Doc, Key, Token, TxnId};
+use txn_key::{Key, Token, TxnId};
 use txn_record::Outcome;
 use txn_runner::StepError;
-
-/// A document's line: its collection and id as JSON, and its body, with blanks between.
-pub fn push_document(out: &mut Vec<u8>, doc: &Doc) -> Result<(), OutOfMemory>
-    ensures { OnOk result (out.new.items ≡ out.old.items ++ document_line (doc.now.key, doc.now.body)) }
-{
-    push_text(out, doc.key.c.as_str())?;
-    out.push(b' ')?;
-    push_id(out, &doc.key.d)?;
-    out.push(b' ')?;
-    push_value(out, &doc.body)?;
-    out.push(b'\n')?;
-    Ok(())
-}
-
-/// The id of a document as JSON.
-fn push_id(out: &mut Vec<u8>, id: &DocId) -> Result<(), OutOfMemory>
-    ensures { OnOk result (out.new.items ≡ out.old.items ++ id_json id.now) }
-{
-    match id {
-        DocId::Text(text) => push_text(out, text.as_str()),
-        DocId::Int(number) => push_value(out, &Value::Int(*number)),
-    }
-}
+use txn_script::push_key;
 
 /// The line of a transaction's outcome: its id, a blank and a word.
 pub fn push_outcome(
@@ -110,9 +88,7 @@ fn revno_line(alloc: Global, key: &Key) -> Result<Vec<u8>, OutOfMemory>
     ensures { IfOk result (λ out. out.items ≡ step_text (StepError.RevnoSpent key.now)) }
 {
     let mut out = Vec::from_slice(alloc, b"revno spent at doc ")?;
-    push_text(&mut out, key.c.as_str())?;
-    out.push(b' ')?;
-    push_id(&mut out, &key.d)?;
+    push_key(&mut out, key)?;
     out.push(b'\n')?;
     Ok(out)
 }

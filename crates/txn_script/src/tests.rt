@@ -1,7 +1,8 @@
-use crate::{ScriptFault, Statement, read_line};
+use crate::{ScriptFault, Statement, push_document, read_line};
 use doc_value::OutOfMemory;
 use std::alloc::Global;
 use std::test::Fail;
+use txn_key::Doc;
 
 /// Lines and their kind, or the text that refuses them.
 static LINES: [(&str, &str); 65] = [
@@ -366,6 +367,35 @@ fn depths_and_counts_are_bounded(rt: HostRuntime) -> Result<(), Fail> {
         let line = submission(alloc, whole.as_str())?;
         let read = reading(alloc, line.as_bytes())?;
         assert_eq!(rt; read.as_str(), *expected, "{ops} {count}");
+    }
+    Ok(())
+}
+
+/// `doc` lines, and the lines in which their documents are shown.
+static SHOWN: [(&str, &str); 3] = [
+    (
+        r#"{"doc":["accounts","aram"],"body":{"balance":200}}"#,
+        "\"accounts\" \"aram\" {\"balance\":200}\n",
+    ),
+    (
+        r#"{"doc":["bank",-7],"body":{"b":[],"a":"\u0001\n"}}"#,
+        "\"bank\" -7 {\"a\":\"\\u0001\\n\",\"b\":[]}\n",
+    ),
+    (
+        r#"{"doc":["k","\""],"body":{"_id":"\""}}"#,
+        "\"k\" \"\\\"\" {}\n",
+    ),
+];
+
+#[test]
+fn documents_are_shown(rt: HostRuntime) -> Result<(), Fail> {
+    let alloc = rt.alloc();
+    for (line, expected) in &SHOWN {
+        let mut shown = Vec::new(alloc);
+        if let Ok(Some(Statement::Doc { key, body })) = read_line(alloc, line.as_bytes()) {
+            push_document(&mut shown, &Doc { key, body })?;
+        }
+        assert_eq!(rt; shown.as_slice(), expected.as_bytes(), "{line}");
     }
     Ok(())
 }
