@@ -34,6 +34,73 @@ const ABORTED: &str = r#"000000000000000000000001 aborted
 "k" "a" {"v":0}
 "#;
 
+/// Its assertion fails, beside an update.
+const ABSENT: &str = r#"{"doc":["k","a"],"body":{"v":0}}
+{"txn":"000000000000000000000001","ops":[{"c":"k","d":"a","u":{"$set":{"v":1}}}]}
+{"txn":"000000000000000000000002","ops":[{"c":"k","d":"a","a":"d-","u":{"$set":{"v":2}}}]}
+{"go":{}}
+{"show":true}
+"#;
+
+/// A sum that doesn't fit 64 bits, and the greatest that does.
+const GREATEST: &str = r#"{"doc":["k","p"],"body":{"n":9223372036854775807}}
+{"doc":["k","q"],"body":{"n":9223372036854775806}}
+{"txn":"000000000000000000000001","ops":[{"c":"k","d":"p","u":{"$inc":{"n":1}}}]}
+{"txn":"000000000000000000000002","ops":[{"c":"k","d":"q","u":{"$inc":{"n":1}}}]}
+{"go":{}}
+{"show":true}
+"#;
+
+/// What words and a script come to: the status and the output.
+static WORKED: [(&str, &str, u8, &str); 16] = [
+    ("run", SCRIPT, 0, OUTPUT),
+    ("run", ABORT, 1, ABORTED),
+    (
+        "run",
+        ABSENT,
+        1,
+        "000000000000000000000001 applied\n000000000000000000000002 aborted\n\"k\" \"a\" {\"v\":1}\n",
+    ),
+    (
+        "run",
+        GREATEST,
+        1,
+        "000000000000000000000001 aborted\n000000000000000000000002 applied\n\"k\" \"p\" {\"n\":9223372036854775807}\n\"k\" \"q\" {\"n\":9223372036854775807}\n",
+    ),
+    ("run", "", 0, ""),
+    ("fly", SCRIPT, 2, USAGE),
+    ("", SCRIPT, 2, USAGE),
+    ("race --db f", SCRIPT, 2, USAGE),
+    ("grind 0", SCRIPT, 2, USAGE),
+    ("grind 2001", SCRIPT, 2, USAGE),
+    ("run", "{\"audit\":true}\n", 3, "line 1: not built yet\n"),
+    ("run", "# a comment\n\n{\"sho", 3, "line 3: not JSON\n"),
+    (
+        "run",
+        r#"{"txn":"000000000000000000000001","ops":[{"c":"k","d":"a","i":{},"r":true}]}"#,
+        3,
+        "line 1: error in transaction op 0: more than one of Insert/Update/Remove set\n",
+    ),
+    (
+        "run",
+        r#"{"txn":"000000000000000000000001","ops":[{"c":"k","d":"a","a":"d+"},{"c":"k"}]}"#,
+        3,
+        "line 1: error in transaction op 1: C or Id missing\n",
+    ),
+    (
+        "run",
+        r#"{"txn":"000000000000000000000001","ops":[{"c":"k","d":"a"}]}"#,
+        3,
+        "line 1: error in transaction op 0: none of Assert/Insert/Update/Remove set\n",
+    ),
+    (
+        "run",
+        r#"{"txn":"000000000000000000000001","ops":[{"c":"k","d":"a","a":"d+"}]}"#,
+        3,
+        "line 1: not built yet\n",
+    ),
+];
+
 /// What a call wrote, and how it ended.
 #[derive(Drop)]
 struct Played {
@@ -55,23 +122,29 @@ const NONE: Fails = Fails {
     store: 0,
 };
 
-fn play(alloc: Global, word: &str, script: &str, fails: Fails) -> Result<Played, Fail> {
+fn play(alloc: Global, words: &str, script: &str, fails: Fails) -> Result<Played, Fail> {
     let store = MemoryStore::new(alloc, vec![in alloc; fails.store]?)?;
-    play_over(alloc, word, script, fails, store)
+    play_over(alloc, words, script.as_bytes(), fails, store)
 }
 
+/// Calls the program with words that stand between blanks.
 fn play_over<S: Store + Drop>(
     alloc: Global,
-    word: &str,
-    script: &str,
+    words: &str,
+    script: &[u8],
     fails: Fails,
     store: S,
 ) -> Result<Played, Fail> {
-    let words = vec![in alloc; String::from_str(alloc, word)?]?;
-    let bytes = Vec::from_slice(alloc, script.as_bytes())?;
+    let mut list = Vec::new(alloc);
+    for word in words.split(' ') {
+        if !word.is_empty() {
+            list.push(String::from_str(alloc, word)?)?;
+        }
+    }
+    let bytes = Vec::from_slice(alloc, script)?;
     let mut input = MemorySource::new(bytes, vec![in alloc; fails.input]?);
     let mut output = MemorySink::new(alloc, ROOM, vec![in alloc; fails.output]?)?;
-    let done = command(alloc, words.as_slice(), &mut input, &mut output, store);
+    let done = command(alloc, list.as_slice(), &mut input, &mut output, store);
     let written = Vec::from_slice(alloc, output.written())?;
     Ok(Played {
         status: done.status,
@@ -82,18 +155,30 @@ fn play_over<S: Store + Drop>(
 #[test]
 fn worked_scripts(rt: HostRuntime) -> Result<(), Fail> {
     let alloc = rt.alloc();
-    for (word, script, status, text) in [
-        ("run", SCRIPT, 0, OUTPUT),
-        ("run", ABORT, 1, ABORTED),
-        ("run", "", 0, ""),
-        ("fly", SCRIPT, 2, USAGE),
-        ("run", "{\"audit\":true}\n", 3, "line 1: not built yet\n"),
-        ("run", "# a comment\n\n{\"sho", 3, "line 3: not JSON\n"),
-    ] {
-        let played = play(alloc, word, script, NONE)?;
-        assert_eq!(rt; played.status, status, "{script}");
-        assert_eq!(rt; played.written.as_slice(), text.as_bytes(), "{script}");
+    for (words, script, status, text) in &WORKED {
+        let played = play(alloc, words, script, NONE)?;
+        assert_eq!(rt; played.status, *status, "{words} {script}");
+        assert_eq!(rt;
+            played.written.as_slice(),
+            text.as_bytes(),
+            "{words} {script}"
+        );
     }
+    Ok(())
+}
+
+/// A line of one byte more than a line may have.
+#[test]
+fn long_lines(rt: HostRuntime) -> Result<(), Fail> {
+    let alloc = rt.alloc();
+    let mut line = Vec::new(alloc);
+    for _ in 0..16_777_217u32 {
+        line.push(b'a')?;
+    }
+    let store = MemoryStore::new(alloc, Vec::new(alloc))?;
+    let played = play_over(alloc, "run", line.as_slice(), NONE, store)?;
+    assert_eq!(rt; played.status, 3);
+    assert_eq!(rt; played.written.as_slice(), b"line 1: too long\n".as_slice());
     Ok(())
 }
 
@@ -133,7 +218,13 @@ fn silent_stores(rt: HostRuntime) -> Result<(), Fail> {
     let alloc = rt.alloc();
     for (fails, status, text) in [(0, 0, OUTPUT), (3, 5, "store fault\n")] {
         let told = MemoryStore::new(alloc, vec![in alloc; fails]?)?;
-        let played = play_over(alloc, "run", SCRIPT, NONE, SilentStore::over(told))?;
+        let played = play_over(
+            alloc,
+            "run",
+            SCRIPT.as_bytes(),
+            NONE,
+            SilentStore::over(told),
+        )?;
         assert_eq!(rt; played.status, status, "{fails}");
         assert_eq!(rt; played.written.as_slice(), text.as_bytes(), "{fails}");
     }
