@@ -6,7 +6,6 @@ pub mod Runs
 pub mod Batches
 pub mod OnlyReading
 pub mod Sessions
-pub mod Listed
 pub mod Readings
 pub mod BatchRuns
 pub mod Spending

@@ -1,5 +1,4 @@
 pub mod Faulting
-pub mod Listing
 pub mod Play
 pub mod Texts
 pub mod Index

@@ -1,26 +1,23 @@
-//! The documents of a store, by one call for each and one more.
+//! The lines in which the documents of a store are shown.
 
-ghost use Rattle.std.specs.Prelude.{◌≡◌, ◌++◌, IsTrue, IfOk, OnOk, IfErr, IsErrOf};
+ghost use Rattle.std.specs.Prelude.{◌≡◌, ◌++◌, IsTrue, OnOk, IfErr, IsErrOf};
 ghost use Rattle.std.specs.List.{flat_map};
 ghost use Rattle.txn_key.specs.Documents.{pairs_of};
-ghost use Rattle.store_trait.specs.Calls.{CallsGoOn, OneCall, Rose};
+ghost use Rattle.store_trait.specs.Calls.{CallsGoOn, Rose};
 ghost use Rattle.store_trait.specs.Contents.{Content};
 ghost use Rattle.store_trait.specs.Meaning.{bodies};
 ghost use Rattle.store_laws.specs.Plain.{IsPlain};
-ghost use Rattle.txn_cli.specs.Listing.{StandsPast, IsNext, next_as};
-ghost use Rattle.txn_runner.specs.Causes.{IsOfStore};
 ghost use Rattle.txn_cli.specs.Refusals.{HasReason, IsOfRun, IsUnspent};
-ghost use Rattle.txn_runner.specs.Running.{OnlyReads};
 ghost use Rattle.txn_cli.specs.Texts.{documents_text};
+ghost use Rattle.txn_runner.specs.Running.{OnlyReads};
 ghost use Rattle.txn_script.specs.Printing.{document_line};
 
 use crate::fault::{Fault, fault_of};
 use doc_value::OutOfMemory;
 use std::alloc::Global;
-use store_laws::bodies_as_they_lie;
-use store_trait::{Cell, Name, Named, Store, StoreError};
-use txn_key::{Doc, Docs, TxnId, documents_rise};
-use txn_runner::StepError;
+use store_trait::Store;
+use txn_key::Doc;
+use txn_runner::list_documents;
 use txn_script::push_document;
 
 /// Prints the documents of the store, in the order of their keys.
@@ -54,69 +51,4 @@ fn push_lines(lines: &mut Vec<u8>, docs: &[Doc]) -> Result<(), OutOfMemory>
         push_document(lines, doc)?;
     }
     Ok(())
-}
-
-/// The documents, in the order of their keys.
-pub fn list_documents<S: Store>(alloc: Global, store: &mut S) -> Result<Docs, StepError>
-    ensures listed { IsTrue S.tells → IsPlain (S.content store.old) → IfOk result (λ docs. docs ≡ bodies (S.content store.old)) }
-    ensures reads { IsTrue S.tells → OnlyReads S.content S.place S.calls store.old store.new }
-    ensures kind { IfErr result IsOfStore }
-    ensures calls { CallsGoOn S.tells S.content S.place S.calls S.faults store.old store.new }
-    ensures fault { IsErrOf result StepError.StoreFault → Rose (S.faults store.old) (S.faults store.new) }
-{
-    documents_rise();
-    bodies_as_they_lie();
-    let mut docs = Docs::new(alloc);
-    // Records come before documents in the order of names. The greatest id passes over all of them.
-    let mut after = Name::Record(TxnId([255; 12]));
-    for _ in 0..u64::MAX {
-        match next_listed(alloc, store, &after)? {
-            Next::Document(doc) => {
-                after = Name::Doc(doc.key.copy(alloc)?);
-                docs.push(doc)?;
-            }
-            Next::Record(id) => after = Name::Record(id),
-            Next::End => return Ok(docs),
-        }
-    }
-    // So many documents are more than memory holds.
-    Err(StepError::OutOfMemory)
-}
-
-/// What comes past a name, where documents are listed.
-#[derive(Drop)]
-enum Next {
-    Document(Doc),
-    Record(TxnId),
-    /// Nothing, or a cell that all documents come before.
-    End,
-}
-
-fn next_listed<S: Store>(alloc: Global, store: &mut S, after: &Name) -> Result<Next, StepError>
-    ensures past { IfOk result (StandsPast after.now) }
-    ensures found { IsTrue S.tells → IfOk result (IsNext (S.content store.old) after.now) }
-    ensures same { IsTrue S.tells → S.content store.new ≡ S.content store.old }
-    ensures kind { IfErr result IsOfStore }
-    ensures call { OneCall S.tells S.content S.place S.calls S.faults store.old store.new result StepError.StoreFault }
-{
-    match store.next(alloc, Some(after)) {
-        Ok(None) => Ok(Next::End),
-        Ok(Some(named)) => Ok(into_next(named)),
-        Err(StoreError::Failed) => Err(StepError::StoreFault),
-        Err(StoreError::OutOfMemory) => Err(StepError::OutOfMemory),
-    }
-}
-
-fn into_next(named: Named) -> Next
-    ensures { result ≡ next_as named.name named.cell }
-{
-    let Named { name, cell } = named;
-    match (name, cell) {
-        (Name::Doc(key), Cell::Doc(doc)) => Next::Document(Doc {
-            key,
-            body: doc.body,
-        }),
-        (Name::Record(id), _) => Next::Record(id),
-        _ => Next::End,
-    }
 }

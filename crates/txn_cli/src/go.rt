@@ -10,7 +10,6 @@ ghost use Rattle.txn_cli.specs.Refusals.{IsOfRun, IsUnspent, HasCause, HasReason
 ghost use Rattle.txn_cli.specs.Runs.{GrowsByOne, RunsGoOn};
 ghost use Rattle.txn_record.specs.declared.entry.Entry.{Entry as LogEntry};
 
-use crate::documents::list_documents;
 use crate::done::Run;
 use crate::fault::{Fault, fault_of};
 use crate::print::push_outcome;
@@ -18,7 +17,7 @@ use sqlite_items::Items;
 use std::alloc::Global;
 use store_trait::Store;
 use txn_record::Entry;
-use txn_runner::{Waiting, settle, submit};
+use txn_runner::{Waiting, list_documents, settle, submit};
 
 /// Runs a batch: its records are submitted, and then each transaction is settled in turn. Answers
 /// the lines of the outcomes. The Run is kept, also where the batch isn't run to its end.

@@ -6,3 +6,5 @@ pub mod Submitting
 pub mod CallsMade
 pub mod Numbers
 pub mod Answered
+pub mod Listed
+pub mod OnlyReading

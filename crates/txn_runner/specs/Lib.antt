@@ -6,3 +6,4 @@ pub mod Causes
 pub mod Calm
 pub mod Built
 pub mod Numbers
+pub mod Listing

@@ -8,6 +8,7 @@
 
 mod built;
 mod calls;
+mod documents;
 mod error;
 mod settling;
 mod stage;
@@ -16,6 +17,7 @@ mod testing;
 mod waiting;
 
 pub use built::{is_built, only};
+pub use documents::list_documents;
 pub use error::StepError;
 pub use settling::settle;
 pub use stage::Stage;

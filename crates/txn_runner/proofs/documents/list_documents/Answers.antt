@@ -1,12 +1,13 @@
 use Rattle.std.proofs.Common.{rules, replicate, sym, subst}
 use Rattle.txn_key.specs.Documents.{IsPast}
-use Rattle.txn_cli.specs.Listing.{IsNext}
+use Rattle.txn_runner.specs.Listing.{IsNext}
 use Rattle.store_trait.specs.Contents.{Content}
-use Rattle.txn_cli.specs.declared.documents.Next.TheVariants as next
-use Rattle.txn_cli.proofs.Listed.{call_then, is_lt-Less, listed_none, listed_more, listed_record, rises_record, listed_all}
-use Rattle.txn_cli.proofs.OnlyReading.{reads_none, reads_call}
-use Rattle.txn_cli.proofs.documents.list_documents.Goals as goal
-use Rattle.txn_cli.proofs.documents.list_documents.Goals.{in-Document+in_ok-copy-in-Document+in_ok-push-in-Document, in-Record}
+use Rattle.txn_runner.specs.declared.documents.Next.TheVariants as next
+use Rattle.txn_runner.proofs.CallsMade.{call_after}
+use Rattle.txn_runner.proofs.Listed.{is_lt-Less, listed_none, listed_more, listed_record, rises_record, listed_all}
+use Rattle.txn_runner.proofs.OnlyReading.{reads_none, reads_call}
+use Rattle.txn_runner.proofs.documents.list_documents.Goals as goal
+use Rattle.txn_runner.proofs.documents.list_documents.Goals.{in-Document+in_ok-copy-in-Document+in_ok-push-in-Document, in-Record}
 
 pub loop-init : goal.loop-init
 loop-init g c = record {
@@ -33,7 +34,7 @@ loop-preserved g c = elim c.match-branch-2.branch [
             let comes = subst (λ (held : Content). IsNext held c.loop.after (next.Document doc)) ((c.loop.invariant.reads told).same) (rw w.in-Document.is at (c.in_ok-doc.ensures.found told)) in
             listed_more (g.S.Store.content c.args.store.now) c.loop.after c.loop.docs doc (c.loop.invariant.listed told) past comes;
         reads = λ told. reads_call _ _ _ _ _ _ _ _ _ _ told (g.met.S.Store.present _ told) (c.loop.invariant.reads told) c.next_listed.ensures.call (c.next_listed.ensures.same told);
-        go_on = call_then _ _ _ _ _ _ _ _ _ _ c.loop.invariant.go_on c.in_ok-doc.ensures.call;
+        go_on = call_after _ _ _ _ _ _ _ _ _ _ c.loop.invariant.go_on c.in_ok-doc.ensures.call;
       })
   | in-Record w ↦
       let past = rw w.in-Record.is at c.in_ok-doc.ensures.past in
@@ -41,7 +42,7 @@ loop-preserved g c = elim c.match-branch-2.branch [
         rising = rises_record c.loop.after c.loop.docs w.in-Record.id c.loop.invariant.rising past;
         listed = λ told. listed_record (g.S.Store.content c.args.store.now) c.loop.after c.loop.docs w.in-Record.id (c.loop.invariant.listed told) past;
         reads = λ told. reads_call _ _ _ _ _ _ _ _ _ _ told (g.met.S.Store.present _ told) (c.loop.invariant.reads told) c.next_listed.ensures.call (c.next_listed.ensures.same told);
-        go_on = call_then _ _ _ _ _ _ _ _ _ _ c.loop.invariant.go_on c.in_ok-doc.ensures.call;
+        go_on = call_after _ _ _ _ _ _ _ _ _ _ c.loop.invariant.go_on c.in_ok-doc.ensures.call;
       })
 ]
 

@@ -19,7 +19,6 @@ use Rattle.txn_key.specs.declared.docs.Doc.{Doc}
 use Rattle.txn_key.specs.declared.id.TxnId.{TxnId}
 use Rattle.txn_key.specs.declared.key.Key.{Key}
 use Rattle.store_trait.proofs.NameOrder.{name_cmp_total, name_cmp-IsAntisymmetric}
-use Rattle.store_trait.specs.Calls.{CallsGoOn, OneCall}
 use Rattle.store_trait.specs.Cells.{as_doc}
 use Rattle.store_trait.specs.Contents.{Content, is_past, first_past, named}
 use Rattle.store_trait.specs.Names.{may_stand, name_cmp}
@@ -31,8 +30,8 @@ use Rattle.store_trait.specs.declared.cell.Named.{Named}
 use Rattle.store_trait.specs.declared.name.Name.{Name}
 use Rattle.store_trait.specs.declared.name.Name.TheVariants as name
 use Rattle.store_laws.specs.Plain.{body_at}
-use Rattle.txn_cli.specs.Listing.{IsListedUpTo, IsListOf, ComesNext, IsNext, next_as}
-use Rattle.txn_cli.specs.declared.documents.Next.TheVariants as next
+use Rattle.txn_runner.specs.Listing.{IsListedUpTo, IsListOf, ComesNext, IsNext, next_as}
+use Rattle.txn_runner.specs.declared.documents.Next.TheVariants as next
 
 both : (a b : Bool) → T (a && b) → T a × T b
 both true b p = (tt, p)
@@ -184,16 +183,3 @@ listed_all c after docs list none key = list key ∙ by (is_past (Some after) (n
     by : (b : Bool) → is_past (Some after) (name.Doc key) ≡ b → cond b None (body_at c key) ≡ body_at c key
     by true past = sym (none key past)
     by false past = refl
-
--- calls on a store, and then one that was made
-pub call_then : {S T E : Type 0} (tells : Bool) (content : S → Content) (place : S → ℕ → Content) (calls faults : S → ℕ) (a b c : S) (x : T) (failed : E)
-    → CallsGoOn tells content place calls faults a b → OneCall tells content place calls faults b c (Ok x) failed
-    → CallsGoOn tells content place calls faults a c
-call_then tells content place calls faults a b c x failed first second = record {
-  trail = λ told. record {
-    before = λ n le. (second.trail told).before n (omega (arith, first.counted)) ∙ (first.trail told).before n le;
-    here = (second.trail told).here;
-  };
-  counted = omega (arith, first.counted, second.counted);
-  later = omega (arith, first.later, second.later);
-}

@@ -1,8 +1,8 @@
 use Rattle.std.proofs.Common.{sym, subst}
-use Rattle.txn_cli.specs.Listing.{IsNext}
-use Rattle.txn_cli.specs.declared.documents.Next.{Next}
-use Rattle.txn_cli.proofs.Listed.{next_found, next_none}
-use Rattle.txn_cli.proofs.documents.next_listed.Goals as goal
+use Rattle.txn_runner.specs.Listing.{IsNext}
+use Rattle.txn_runner.specs.declared.documents.Next.{Next}
+use Rattle.txn_runner.proofs.Listed.{next_found, next_none}
+use Rattle.txn_runner.proofs.documents.next_listed.Goals as goal
 
 pub returns-in-Ok-None-clause-found : goal.returns-in-Ok-None-clause-found
 returns-in-Ok-None-clause-found g c told =

@@ -12,8 +12,8 @@ use Rattle.store_trait.specs.declared.cell.Cell.TheVariants as cell
 use Rattle.store_trait.specs.declared.name.Name.{Name}
 use Rattle.store_trait.specs.declared.name.Name.TheVariants as name
 use Rattle.store_laws.specs.Plain.{body_at}
-use Rattle.txn_cli.specs.declared.documents.Next.{Next}
-use Rattle.txn_cli.specs.declared.documents.Next.TheVariants as next
+use Rattle.txn_runner.specs.declared.documents.Next.{Next}
+use Rattle.txn_runner.specs.declared.documents.Next.TheVariants as next
 use Rattle.txn_runner.specs.Running.{OnlyReads}
 
 -- each key whose document comes after the name stands after all these documents
