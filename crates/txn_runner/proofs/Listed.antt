@@ -1,5 +1,5 @@
 -- What comes next in a content past a name, and how a list of its documents grows by it.
-use Rattle.std.proofs.Common.{◌≡◌, ℕ, Ok, arith, Bool, true, false, cond, find, T, Option, Some, None, List, [], ◌∷◌, ◌&&◌, sym, ap, ◌∙◌, refl, subst}
+use Rattle.std.proofs.Common.{◌≡◌, Bool, true, false, cond, find, T, Option, Some, None, List, [], ◌∷◌, ◌&&◌, sym, ap, ◌∙◌, refl, subst}
 use Rattle.std.specs.Cmp.{IsTotalOrder, Equal-is}
 use Rattle.std.specs.FinMap.{IsAntisymmetric, empty, entries, entries_sorted, get, get-empty, get-entries, get-insert, insert, is_sorted}
 use Rattle.std.specs.FinMap.Entries.{below_all}

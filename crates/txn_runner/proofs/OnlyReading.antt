@@ -1,6 +1,6 @@
 -- Calls that only read, one after another.
-use Rattle.std.proofs.Common.{◌≡◌, ℕ, Bool, ◌+◌, ◌≤◌, List, IsTrue, Result, Ok, Err, ◌⊎◌, ⊎_elim, inl, inr, refl, sym, ap, ◌∙◌, arith}
-use Rattle.store_trait.specs.Calls.{CallsGoOn, GoesOn, OneCall}
+use Rattle.std.proofs.Common.{◌≡◌, ℕ, Bool, ◌+◌, ◌≤◌, IsTrue, Result, Ok, Err, ◌⊎◌, ⊎_elim, inl, inr, refl, sym, ap, ◌∙◌, arith}
+use Rattle.store_trait.specs.Calls.{GoesOn, OneCall}
 use Rattle.store_trait.specs.Contents.{Content}
 use Rattle.txn_runner.specs.Running.{OnlyReads}
 
