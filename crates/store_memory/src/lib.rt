@@ -4,6 +4,7 @@
 mod log;
 mod memory;
 mod places;
+mod slot;
 mod store;
 #[cfg(test)]
 mod tests;

@@ -12,6 +12,7 @@ ghost use Rattle.store_memory.specs.CallsMade.{IsCall};
 
 use crate::log::Logged;
 use crate::places;
+use crate::slot::Slot;
 use doc_value::OutOfMemory;
 use std::alloc::Global;
 use std::marker::Model;
@@ -24,7 +25,7 @@ const CALL_LIMIT: u64 = 1 << 63;
 /// from which it tells the content after each call. Chosen calls fail.
 #[derive(Drop)]
 pub struct MemoryStore {
-    cells: Vec<(Name, Cell)>,
+    cells: Vec<Slot>,
     log: Vec<Logged>,
     fails: Vec<u64>,
     calls: u64,
@@ -238,7 +239,7 @@ fn counted_failure(calls: u64) -> u64
 /// Puts a cell under a name and into the log, and answers a copy. Memory is taken first.
 fn write(
     alloc: Global,
-    cells: &mut Vec<(Name, Cell)>,
+    cells: &mut Vec<Slot>,
     log: &mut Vec<Logged>,
     call: u64,
     name: &Name,
@@ -263,7 +264,7 @@ fn write(
 /// Takes out the cell under a name, and notes that in the log. Memory is taken first.
 fn erase(
     alloc: Global,
-    cells: &mut Vec<(Name, Cell)>,
+    cells: &mut Vec<Slot>,
     log: &mut Vec<Logged>,
     call: u64,
     name: &Name,

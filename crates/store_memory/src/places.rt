@@ -6,38 +6,36 @@ ghost use Rattle.store_trait.specs.Names.{name_cmp};
 ghost use Rattle.store_trait.specs.Contents.{is_past, named};
 ghost use Rattle.store_memory.specs.Places.{GoesAt, StandsAt};
 
+use crate::slot::Slot;
 use doc_value::OutOfMemory;
 use sqlite_items::at;
 use std::alloc::Global;
 use store_trait::{Cell, Name, Named};
 
 /// Where a name stands among cells in the order of names, or else where it would go.
-fn seek(cells: &[(Name, Cell)], name: &Name) -> Result<usize, usize>
+fn seek(cells: &[Slot], name: &Name) -> Result<usize, usize>
     requires { IsTrue (is_sorted name_cmp cells.now) }
     ensures stands { IfOk result (λ place. StandsAt name_cmp name.now place cells.now) }
     ensures goes { IfErr result (λ place. GoesAt name_cmp name.now place cells.now) }
     ensures within { IfOk result (λ place. place < length cells.now) }
     ensures at_most { IfErr result (λ place. place ≤ length cells.now) }
 {
-    cells.binary_search_by(|entry| entry.0.compare(name))
+    cells.binary_search_by(|slot| slot.name().compare(name))
 }
 
 /// The cell under a name.
-pub(crate) fn look<'a>(cells: &'a [(Name, Cell)], name: &Name) -> Option<&'a Cell>
+pub(crate) fn look<'a>(cells: &'a [Slot], name: &Name) -> Option<&'a Cell>
     requires { IsTrue (is_sorted name_cmp cells.now) }
     ensures { option_copied result ≡ value_of name_cmp name.now cells.now }
 {
     match seek(cells, name) {
-        Ok(place) => Some(&cells[place].1),
+        Ok(place) => Some(cells[place].cell()),
         Err(_) => None,
     }
 }
 
 /// The first cell past a name, or the first of all.
-pub(crate) fn first_past<'a>(
-    cells: &'a [(Name, Cell)],
-    after: Option<&Name>,
-) -> Option<&'a (Name, Cell)>
+pub(crate) fn first_past<'a>(cells: &'a [Slot], after: Option<&Name>) -> Option<&'a Slot>
     requires { IsTrue (is_sorted name_cmp cells.now) }
     ensures { option_copied result ≡ find (λ entry. is_past (option_copied after.entry) entry.0) cells.now }
 {
@@ -48,7 +46,7 @@ pub(crate) fn first_past<'a>(
 }
 
 /// The place of the first cell past a name, or the end.
-fn place_past(cells: &[(Name, Cell)], name: &Name) -> usize
+fn place_past(cells: &[Slot], name: &Name) -> usize
     requires { IsTrue (is_sorted name_cmp cells.now) }
     ensures { slice_get cells.now result ≡ find (λ entry. is_past (Some name.now) entry.0) cells.now }
 {
@@ -61,7 +59,7 @@ fn place_past(cells: &[(Name, Cell)], name: &Name) -> usize
 /// Puts a cell under a name.
 pub(crate) fn put(
     alloc: Global,
-    cells: &mut Vec<(Name, Cell)>,
+    cells: &mut Vec<Slot>,
     name: &Name,
     cell: Cell,
 ) -> Result<(), OutOfMemory>
@@ -70,17 +68,17 @@ pub(crate) fn put(
     ensures err { OnErr result (cells.new.items ≡ cells.old.items) }
 {
     match seek(cells, name) {
-        Ok(place) => cells[place].1 = cell,
+        Ok(place) => cells[place].put(cell),
         Err(place) => {
-            let name = name.copy(alloc)?;
-            cells.insert(place, (name, cell))?;
+            let slot = Slot::new(alloc, name.copy(alloc)?, cell)?;
+            cells.insert(place, slot)?;
         }
     }
     Ok(())
 }
 
 /// Takes out the cell under a name, if there is one.
-pub(crate) fn take_out(cells: &mut Vec<(Name, Cell)>, name: &Name)
+pub(crate) fn take_out(cells: &mut Vec<Slot>, name: &Name)
     requires { IsTrue (is_sorted name_cmp cells.old.items) }
     ensures { cells.new.items ≡ where_key name_cmp (λ other. not (eq_by_cmp name_cmp name.now other)) cells.old.items }
 {
@@ -92,7 +90,7 @@ pub(crate) fn take_out(cells: &mut Vec<(Name, Cell)>, name: &Name)
 /// A copy of the cell under a name.
 pub(crate) fn copy_under(
     alloc: Global,
-    cells: &[(Name, Cell)],
+    cells: &[Slot],
     name: &Name,
 ) -> Result<Option<Cell>, OutOfMemory>
     requires { IsTrue (is_sorted name_cmp cells.now) }
@@ -107,7 +105,7 @@ pub(crate) fn copy_under(
 /// A copy of the first cell past a name, or of the first of all, with its name.
 pub(crate) fn copy_past(
     alloc: Global,
-    cells: &[(Name, Cell)],
+    cells: &[Slot],
     after: Option<&Name>,
 ) -> Result<Option<Named>, OutOfMemory>
     requires { IsTrue (is_sorted name_cmp cells.now) }
@@ -115,9 +113,9 @@ pub(crate) fn copy_past(
         (λ found. found ≡ option_map named (find (λ entry. is_past (option_copied after.entry) entry.0) cells.now)) }
 {
     match first_past(cells, after) {
-        Some((name, cell)) => {
-            let name = name.copy(alloc)?;
-            let cell = cell.copy(alloc)?;
+        Some(slot) => {
+            let name = slot.name().copy(alloc)?;
+            let cell = slot.cell().copy(alloc)?;
             Ok(Some(Named { name, cell }))
         }
         None => Ok(None),

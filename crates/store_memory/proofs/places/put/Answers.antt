@@ -11,10 +11,10 @@ pub returns-in-Ok-clause-ok : goal.returns-in-Ok-clause-ok
 returns-in-Ok-clause-ok c =
     let cells = c.args.cells.now.items in
     let stands = subst (λ (es : List (Name × Cell)). StandsAt name_cmp c.args.name.now c.in-Ok.place es) c.deref.ensures.value c.in-Ok.ensures.stands in
-    ap (λ (e : Name × Cell). set cells c.in-Ok.place (e.0, c.args.cell)) c.index_mut.ensures.value ∙ sym (put_stands name_cmp c.args.name.now c.args.cell cells c.in-Ok.place _ stands)
+    ap (set cells c.in-Ok.place) c.put.ensures ∙ ap (λ (e : Name × Cell). set cells c.in-Ok.place (e.0, c.args.cell)) c.index_mut.ensures.value ∙ sym (put_stands name_cmp c.args.name.now c.args.cell cells c.in-Ok.place _ stands)
 
 pub returns-in_ok-insert-in-Err-clause-ok : goal.returns-in_ok-insert-in-Err-clause-ok
 returns-in_ok-insert-in-Err-clause-ok c =
     let cells = c.args.cells.now.items in
     let goes = subst (λ (es : List (Name × Cell)). GoesAt name_cmp c.args.name.now c.in-Err.place es) c.deref.ensures.value c.in-Err.ensures.goes in
-    c.in_ok-insert-in-Err.ensures.items ∙ ap (λ (n : Name). insert cells c.in-Err.place (n, c.args.cell)) c.in_ok-name-in-Err.ensures ∙ sym (put_goes name_cmp c.args.name.now c.args.cell cells c.in-Err.place goes)
+    c.in_ok-insert-in-Err.ensures.items ∙ ap (insert cells c.in-Err.place) (c.in_ok-slot-in-Err.ensures ∙ ap (λ (n : Name). (n, c.args.cell)) c.in_ok-copy-in-Err.ensures) ∙ sym (put_goes name_cmp c.args.name.now c.args.cell cells c.in-Err.place goes)
