@@ -1,11 +1,13 @@
 #!/usr/bin/env python3
 """Times the built program on scripts that bench/make.py makes, at doubling sizes, and prints a table:
-size, seconds of the processor, peak memory. It stops doubling once a run takes a minute.
+size, seconds of the processor, peak memory. It stops doubling once a run takes a minute, or more memory than
+half of the machine's, past which the program is refused more and ends with status 8.
 
     bench/time.py [FORM..]      FORM is a form of bench/make.py; else all of them
 """
 
 import os
+import resource
 import subprocess
 import sys
 import tempfile
@@ -21,22 +23,26 @@ SIZES = {
 }
 # The status that a form's script ends with, where it isn't 0.
 STATUSES = {"mixed": 1, "aborted": 1, "operations": 3, "waiting": 3}
+NO_MEMORY = 8
+# Half of the machine's memory, in bytes.
+MOST_MEMORY = os.sysconf("SC_PAGE_SIZE") * os.sysconf("SC_PHYS_PAGES") // 2
 
 
 def measured(script, expected):
-    """Seconds of the processor and peak memory, in megabytes, of one run."""
+    """The status of one run, its seconds of the processor, and its peak memory in megabytes."""
     pid = os.fork()
     if pid == 0:
         with open(script) as source, open(os.devnull, "w") as sink:
             os.dup2(source.fileno(), 0)
             os.dup2(sink.fileno(), 1)
+            resource.setrlimit(resource.RLIMIT_AS, (MOST_MEMORY, MOST_MEMORY))
             os.execv(PROGRAM, [PROGRAM, "run"])
     _, ended, usage = os.wait4(pid, 0)
     seconds = usage.ru_utime + usage.ru_stime
     status = os.waitstatus_to_exitcode(ended)
-    if status != expected:
+    if status not in (expected, NO_MEMORY):
         sys.exit("the program ended with status %d in place of %d" % (status, expected))
-    return seconds, usage.ru_maxrss / 1024
+    return status, seconds, usage.ru_maxrss / 1024
 
 
 def main():
@@ -47,7 +53,9 @@ def main():
                 subprocess.run([sys.executable, os.path.join(HERE, "make.py"), form, str(size)],
                                stdout=script, check=True)
                 script.flush()
-                seconds, megabytes = measured(script.name, STATUSES.get(form, 0))
+                status, seconds, megabytes = measured(script.name, STATUSES.get(form, 0))
+            if status == NO_MEMORY:
+                break
             print("| %d | %.2f | %.0f |" % (size, seconds, megabytes), flush=True)
             if seconds > 60:
                 break
