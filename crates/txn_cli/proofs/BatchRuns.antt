@@ -48,10 +48,10 @@ module _ {S : Type 0} (tells : Bool) (content : S → Content) (place : S → �
       subst (λ (rs : List Run). RunsGoOn (place now) rs (calls now)) (sym kept)
       (runs_add (place now) runs run (calls mid) (calls now) there mark (base ∙ ap meaning (sym still_there ∙ ap (place now) mark)) has)
 
-  pub batch_done : (before after : List Run) (lines : List ℕ) → after ≡ before ++ run ∷ [] → Uses (content mid) (content now) (length waiting) (length waiting) 0 0 → IsDoneWith (content now) waiting lines → HasRunBatch (content old) (content now) waiting before after lines
-  batch_done before after lines kept uses done = record {
+  pub batch_done : (before after : List Run) (lines : List ℕ) → run.turns ≡ [] → after ≡ before ++ run ∷ [] → Uses (content mid) (content now) (length waiting) (length waiting) 0 0 → IsDoneWith (content now) waiting lines → HasRunBatch (content old) (content now) waiting before after lines
+  batch_done before after lines turns kept uses done = record {
     run = run;
     ran = subst (λ (c : Content). RanBatch c (content now) waiting run lines) reads.same
-        (ran_batch content place calls mid now waiting run lines may_mid (present mid) (present now) mark base works uses done has still_there);
+        (ran_batch content place calls mid now waiting run lines may_mid (present mid) (present now) mark base turns works uses done has still_there);
     kept = kept;
   }

@@ -280,12 +280,12 @@ unchosen c id none = ap (state_passes is_chosen_state) none
 
 pub ran_batch : {S : Type 0} (content : S → Content) (place : S → ℕ → Content) (calls : S → ℕ) (old now : S) (waiting : List Waiting) (run : Run) (lines : List ℕ)
     → MayRun (content old) waiting → place old (calls old) ≡ content old → place now (calls now) ≡ content now
-    → run.mark ≡ calls old → run.base ≡ meaning (content old)
+    → run.mark ≡ calls old → run.base ≡ meaning (content old) → run.turns ≡ []
     → WorksOnBatch content place calls old now [] run.order waiting → Uses (content old) (content now) (length waiting) (length waiting) 0 0 → IsDoneWith (content now) waiting lines
     → HasRun (place now) run.mark (calls now) run.base run.order
     → place now run.mark ≡ content old
     → RanBatch (content old) (content now) waiting run lines
-ran_batch content place calls old now waiting run lines may was is mark base works uses done has from = record {
+ran_batch content place calls old now waiting run lines may was is mark base turns works uses done has from = record {
   opens = may.calm.sound;
   closes = done.calm.sound;
   base = base;
@@ -295,6 +295,7 @@ ran_batch content place calls old now waiting run lines may was is mark base wor
   only = works.decided refl;
   others = works.others.records;
   uses = uses;
+  turns = turns;
   text = done.text;
 }
   where

@@ -1,12 +1,14 @@
 -- How a call comes from line to line, with what it writes.
-use Rattle.std.proofs.Common.{◌≡◌, ◌≢◌, ◌≤◌, ℕ, ◌+◌, arith, Bool, false, List, [], ◌++◌, Option, Some, None, Result, Ok, Err, IfErr, IsTrue, ◌⊎◌, ⊎_elim, inl, refl, sym, ap, ◌∙◌, subst}
+use Rattle.std.proofs.Common.{◌≡◌, ◌≢◌, ◌≤◌, ℕ, ◌+◌, arith, Bool, false, List, [], ◌++◌, Option, Some, None, Result, Ok, Err, OnOk, OnErr, IfErr, IsTrue, length, ◌⊎◌, ⊎_elim, inl, inr, refl, sym, ap, ◌∙◌, subst}
 use Rattle.std.specs.FinMap.{empty}
+use Rattle.std.proofs.Math.Seq.{take-length}
 use Rattle.std.proofs.lemmas.List.{append-nil, append_assoc}
 use Rattle.store_trait.specs.Contents.{Content}
 use Rattle.txn_runner.specs.Calm.{IsCalm}
 use Rattle.txn_cli.specs.Batches.{MayRun}
 use Rattle.txn_io.specs.Lines.{first_line, after_line, line_cost}
-use Rattle.txn_cli.specs.Play.{Progress, opening, Plays, IsRefusedAt, RefusedAs, StandOnTrail, is_allowed}
+use Rattle.txn_io.specs.Pour.{IsPartPut}
+use Rattle.txn_cli.specs.Play.{Progress, opening, DoesAs, Plays, IsRefusedAt, RefusedAs, StandOnTrail, is_allowed}
 use Rattle.txn_cli.specs.Refusals.{IsOfLine, IsUnspent, not_built}
 use Rattle.txn_script.specs.Faults.{fault_text as script_text}
 use Rattle.txn_script.specs.declared.fault.ScriptFault.TheVariants.{NotBuilt}
@@ -15,7 +17,7 @@ use Rattle.txn_cli.specs.Texts.{fault_text}
 use Rattle.txn_script.specs.declared.fault.ScriptFault.{ScriptFault}
 use Rattle.txn_script.specs.declared.statement.Statement.{Statement}
 use Rattle.txn_script.specs.declared.statement.Statement.TheVariants as statement
-use Rattle.txn_cli.specs.Reading.{HasCome, HasDoneLine, HasRunRest, HasPlayed, HasStopped, HasRefused}
+use Rattle.txn_cli.specs.Reading.{HasCome, HasCut, HasCutLine, HasCutRest, HasDoneLine, HasRunRest, HasPlayed, HasStopped, HasRefused, IsOwed, IsWritten}
 use Rattle.txn_cli.specs.Runs.{GrowsByOne, RunsGoOn}
 use Rattle.txn_cli.specs.Sessions.{IsHeld, at}
 use Rattle.txn_cli.specs.declared.done.Run.{Run}
@@ -58,15 +60,62 @@ module _ {S : Type 0} (content : S → Content) (old new : Session S) (script : 
       opened : (plays : Plays script (opening (content old.store)) 0 (at content new [])) × StandOnTrail place from to plays
       opened = subst (λ (p : Progress). (plays : Plays script (opening (content old.store)) 0 p) × StandOnTrail place from to plays) (sym (still ∙ begins)) (Plays.Opens, le)
 
-pub begins_stopped : (script : List ℕ) (start : Progress) (place : ℕ → Content) (from to : ℕ) (why : Fault) (runs : List Run) (sink_tells : Bool) (written : List ℕ) → from ≤ to → start.printed ≡ [] → runs ≡ start.runs → IsUnspent why → HasStopped script start place from to why runs sink_tells written written
-begins_stopped script start place from to why runs sink_tells written le none kept unspent = record { done = 0; last = start; plays = Plays.Opens; stand = le; kept = inl kept; unspent = unspent; writes = λ told other. sym (ap (λ (l : List ℕ). written ++ l) none ∙ append-nil written) }
+pub begins_stopped : (script : List ℕ) (start : Progress) (place : ℕ → Content) (from to : ℕ) (why : Fault) (runs : List Run) (sink_tells : Bool) (written : List ℕ) → from ≤ to → start.printed ≡ [] → runs ≡ start.runs → IsUnspent why → why ≢ fault.Output → HasStopped script start place from to why runs sink_tells written written
+begins_stopped script start place from to why runs sink_tells written le none kept unspent other = record { done = 0; last = start; plays = Plays.Opens; stand = le; kept = inl kept; unspent = unspent; writes = λ told here. sym (ap (λ (l : List ℕ). written ++ l) none ∙ append-nil written); cut = λ out. absurd (other out) }
 
--- the last line of a refusal was written, or another refusal came
+-- ---- the last line of a refusal was written, or another refusal came
+
+-- all of a piece is some first part of it
+pub put_first : {T E : Type 0} (r : Result T E) (old now piece : List ℕ) → OnOk r (now ≡ old ++ piece) → OnErr r (IsPartPut old now piece) → IsPartPut old now piece
+put_first (Ok x) old now piece whole part = record { count = length piece; part = whole ∙ ap (λ (l : List ℕ). old ++ l) (sym (take-length piece)) }
+put_first (Err e) old now piece whole part = part
+
+-- what was still to be written, and that it was, or its first bytes
+abbrev Owes : List ℕ → ℕ → Progress → Fault → Bool → List ℕ → List ℕ → Type 0
+Owes script done last told sink_tells before now = (owed : List ℕ) × IsOwed script done last told owed × (IsTrue sink_tells → IsWritten told before now owed)
+
+-- after a fault of the output there is no last line
+owes_cut : (script : List ℕ) (done : ℕ) (last : Progress) (sink_tells : Bool) (before written now : List ℕ) → HasCut script done last sink_tells before written → now ≡ written → Owes script done last fault.Output sink_tells before now
+owes_cut script done last sink_tells before written now cut same = (cut.lines, inl cut.next, λ told. subst (λ (w : List ℕ). IsPartPut before w cut.lines) (sym same) (cut.part told))
+
+module _ (script : List ℕ) (done : ℕ) (last : Progress) (why : Fault) (sink_tells : Bool) (before written now : List ℕ) (same : IsTrue sink_tells → written ≡ before) where
+  -- the whole line was written
+  owes_whole : (told : Fault) → IsOwed script done last told (fault_text told) → (IsTrue sink_tells → now ≡ written ++ fault_text told) → ((w : List ℕ) → now ≡ w ++ fault_text told → IsWritten told w now (fault_text told)) → Owes script done last told sink_tells before now
+  owes_whole told is wrote all = (fault_text told, is, λ tells. all before (wrote tells ∙ ap (λ (l : List ℕ). l ++ fault_text told) (same tells)))
+
+  owes_line : (told : Fault) → (IsTrue sink_tells → told ≢ fault.Output → told ≢ fault.OutOfMemory → now ≡ written ++ fault_text told)
+      → (IsTrue sink_tells → told ≡ fault.OutOfMemory → IsPartPut written now (fault_text fault.OutOfMemory))
+      → (IsTrue sink_tells → told ≡ fault.Output → IsPartPut written now (fault_text why))
+      → Owes script done last told sink_tells before now
+  owes_line fault.Output whole memory cut = (fault_text why, inr (why, refl), λ tells. subst (λ (w : List ℕ). IsPartPut w now (fault_text why)) (same tells) (cut tells refl))
+  owes_line fault.OutOfMemory whole memory cut = (fault_text fault.OutOfMemory, refl, λ tells. subst (λ (w : List ℕ). IsPartPut w now (fault_text fault.OutOfMemory)) (same tells) (memory tells refl))
+  owes_line fault.Words whole memory cut = owes_whole fault.Words refl (λ tells. whole tells (λ e. cc) (λ e. cc)) (λ w e. e)
+  owes_line (fault.Line number text) whole memory cut = owes_whole (fault.Line number text) refl (λ tells. whole tells (λ e. cc) (λ e. cc)) (λ w e. e)
+  owes_line fault.Store whole memory cut = owes_whole fault.Store refl (λ tells. whole tells (λ e. cc) (λ e. cc)) (λ w e. e)
+  owes_line fault.Input whole memory cut = owes_whole fault.Input refl (λ tells. whole tells (λ e. cc) (λ e. cc)) (λ w e. e)
+  owes_line (fault.Spent error) whole memory cut = owes_whole (fault.Spent error) refl (λ tells. whole tells (λ e. cc) (λ e. cc)) (λ w e. e)
+  owes_line (fault.Broken error) whole memory cut = owes_whole (fault.Broken error) refl (λ tells. whole tells (λ e. cc) (λ e. cc)) (λ w e. e)
+  owes_line (fault.Repeated id) whole memory cut = owes_whole (fault.Repeated id) refl (λ tells. whole tells (λ e. cc) (λ e. cc)) (λ w e. e)
+
+is_output : (f : Fault) → (f ≡ fault.Output) ⊎ (f ≢ fault.Output)
+is_output fault.Output = inl refl
+is_output fault.OutOfMemory = inr (λ e. cc)
+is_output fault.Words = inr (λ e. cc)
+is_output (fault.Line number text) = inr (λ e. cc)
+is_output fault.Store = inr (λ e. cc)
+is_output fault.Input = inr (λ e. cc)
+is_output (fault.Spent error) = inr (λ e. cc)
+is_output (fault.Broken error) = inr (λ e. cc)
+is_output (fault.Repeated id) = inr (λ e. cc)
+
 pub refuses_out : (script : List ℕ) (start : Progress) (place : ℕ → Content) (from to : ℕ) (why told : Fault) (runs : List Run) (sink_tells : Bool) (old_written written now : List ℕ) (rose : Type 0) → HasStopped script start place from to why runs sink_tells old_written written
     → (told ≡ why) ⊎ (told ≡ fault.OutOfMemory) ⊎ ((told ≡ fault.Output) × rose)
+    → (why ≡ fault.Output → (told ≡ fault.Output) × (now ≡ written))
     → (IsTrue sink_tells → told ≢ fault.Output → told ≢ fault.OutOfMemory → now ≡ written ++ fault_text told)
+    → (IsTrue sink_tells → told ≡ fault.OutOfMemory → IsPartPut written now (fault_text fault.OutOfMemory))
+    → (IsTrue sink_tells → why ≢ fault.Output → told ≡ fault.Output → IsPartPut written now (fault_text why))
     → HasRefused script start place from to told runs sink_tells old_written now
-refuses_out script start place from to why told runs sink_tells old_written written now rose h kept wrote = record {
+refuses_out script start place from to why told runs sink_tells old_written written now rose h kept output whole memory cut = record {
   done = h.done;
   last = h.last;
   plays = h.plays;
@@ -76,11 +125,16 @@ refuses_out script start place from to why told runs sink_tells old_written writ
       (λ same. subst IsUnspent (sym same) h.unspent)
       (⊎_elim (λ memory. subst IsUnspent (sym memory) tt) (λ output. subst IsUnspent (sym output.0) tt))
       kept;
-  writes = λ tells other enough.
-      wrote tells other enough
-      ∙ ap (λ (l : List ℕ). l ++ fault_text told) (h.writes tells (λ same. other (⊎_elim (λ it. it ∙ same) (⊎_elim (λ memory. absurd (enough memory)) (λ output. output.0)) kept)))
-      ∙ append_assoc old_written h.last.printed (fault_text told);
+  owed = owes.0;
+  is_owed = owes.1;
+  writes = owes.2;
 }
+  where
+    owes : Owes script h.done h.last told sink_tells (old_written ++ h.last.printed) now
+    owes = ⊎_elim
+        (λ is. subst (λ (f : Fault). Owes script h.done h.last f sink_tells (old_written ++ h.last.printed) now) (sym (output is).0) (owes_cut script h.done h.last sink_tells (old_written ++ h.last.printed) written now (h.cut is) (output is).1))
+        (λ other. owes_line script h.done h.last why sink_tells (old_written ++ h.last.printed) written now (λ tells. h.writes tells other) told whole memory (λ tells is. cut tells other is))
+        (is_output why)
 
 -- what is refused doesn't hang on what was printed
 refused_as : {S : Type 0} (content : S → Content) (session : Session S) (a b text : List ℕ) (r : Result (Option Statement) ScriptFault) → RefusedAs r (at content session a) text → RefusedAs r (at content session b) text
@@ -134,15 +188,43 @@ misread_line content session line number why f read is = ⊎_elim
 -- The trail goes on from one moment to the next.
 module _ {S : Type 0} (content : S → Content) (place next_place : ℕ → Content) (from to next_to : ℕ) (script : List ℕ) (start : Progress) (n taken : ℕ) (input : List ℕ) (session : Session S) (sink_tells : Bool) (old_written written : List ℕ)
     (before : (k : ℕ) → k ≤ to → next_place k ≡ place k) (later : to ≤ next_to) where
-  pub stops : (why : Fault) (runs : List Run) (now : List ℕ) → HasCome content place from to script start n taken input session sink_tells old_written written → GrowsByOne session.runs.items runs → IsUnspent why → (IsTrue sink_tells → why ≢ fault.Output → now ≡ written)
+  pub stops : (why : Fault) (runs : List Run) (now : List ℕ) (h : HasCome content place from to script start n taken input session sink_tells old_written written) → GrowsByOne session.runs.items runs → IsUnspent why → (IsTrue sink_tells → why ≢ fault.Output → now ≡ written)
+      → (why ≡ fault.Output → HasCut script n (at content session h.printed) sink_tells (old_written ++ h.printed) now)
       → HasStopped script start next_place from next_to why runs sink_tells old_written now
-  stops why runs now h kept unspent unwritten = record { done = n; last = at content session h.printed; plays = h.plays.plays; stand = stand_still place next_place from to next_to h.plays.plays before later h.stand; kept = kept; unspent = unspent; writes = λ told other. unwritten told other ∙ h.writes told }
+  stops why runs now h kept unspent unwritten cut = record { done = n; last = at content session h.printed; plays = h.plays.plays; stand = stand_still place next_place from to next_to h.plays.plays before later h.stand; kept = kept; unspent = unspent; writes = λ told other. unwritten told other ∙ h.writes told; cut = cut }
+
+  -- the next line was done, and the output failed
+  pub cut_line : (next : Session S) (now line : List ℕ) (h : HasCome content place from to script start n taken input session sink_tells old_written written) → first_line input ≡ Some line → HasCutLine content line session next sink_tells written now
+      → HasCut script n (at content session h.printed) sink_tells (old_written ++ h.printed) now
+  cut_line next now line h first cut = record {
+    lines = cut.lines;
+    next = record {
+      next = at content next (h.printed ++ cut.lines);
+      does = subst (λ (found : Option (List ℕ)). DoesAs found (at content session h.printed) (at content next (h.printed ++ cut.lines))) (sym (ap first_line h.plays.rest ∙ first)) (cut.plays h.printed);
+      prints = refl;
+    };
+    part = λ told. subst (λ (w : List ℕ). IsPartPut w now cut.lines) (h.writes told) (cut.part told);
+  }
+
+  -- the batch that waited at the end was run, and the output failed
+  cut_rest : (next : Session S) (now : List ℕ) (h : HasCome content place from to script start n taken input session sink_tells old_written written) → first_line input ≡ None → HasCutRest content session next sink_tells written now
+      → HasCut script n (at content session h.printed) sink_tells (old_written ++ h.printed) now
+  cut_rest next now h none cut = record {
+    lines = cut.lines;
+    next = record {
+      next = at content next (h.printed ++ cut.lines);
+      does = subst (λ (found : Option (List ℕ)). DoesAs found (at content session h.printed) (at content next (h.printed ++ cut.lines))) (sym (ap first_line h.plays.rest ∙ none)) (cut.runs h.printed);
+      prints = refl;
+    };
+    part = λ told. subst (λ (w : List ℕ). IsPartPut w now cut.lines) (h.writes told) (cut.part told);
+  }
 
   -- the same, of how the batch that waits at the end is run
-  pub stops_at_end : (result : Result (Unit {0}) Fault) (runs : List Run) (now : List ℕ) → HasCome content place from to script start n taken input session sink_tells old_written written → GrowsByOne session.runs.items runs → IfErr result IsUnspent → (IsTrue sink_tells → IfErr result (λ f. f ≢ fault.Output → now ≡ written))
-      → IfErr result (λ f. HasStopped script start next_place from next_to f runs sink_tells old_written now)
-  stops_at_end (Ok x) runs now h kept unspent unwritten = tt
-  stops_at_end (Err f) runs now h kept unspent unwritten = stops f runs now h kept unspent unwritten
+  pub stops_at_end : (result : Result (Unit {0}) Fault) (next : Session S) (now : List ℕ) (h : HasCome content place from to script start n taken input session sink_tells old_written written) → GrowsByOne session.runs.items next.runs.items → IfErr result IsUnspent → (IsTrue sink_tells → IfErr result (λ f. f ≢ fault.Output → now ≡ written))
+      → first_line input ≡ None → IfErr result (λ f. f ≡ fault.Output → HasCutRest content session next sink_tells written now)
+      → IfErr result (λ f. HasStopped script start next_place from next_to f next.runs.items sink_tells old_written now)
+  stops_at_end (Ok x) next now h kept unspent unwritten none cut = tt
+  stops_at_end (Err f) next now h kept unspent unwritten none cut = stops f next.runs.items now h kept unspent unwritten (λ out. cut_rest next now h none (cut out))
 
   pub plays_out : (next : Session S) (now : List ℕ) → HasCome content place from to script start n taken input session sink_tells old_written written → first_line input ≡ None
       → HasRunRest content session next sink_tells written now → HasPlayed script start (content next.store) next_place from next_to next.runs.items sink_tells old_written now

@@ -1,5 +1,5 @@
 -- Where nonces and numbers suffice, none is wanting.
-use Rattle.std.proofs.Common.{◌≡◌, ℕ, [], ◌∷◌, cond, false, unwrap_or, ◌+◌, ◌≤◌, Bool, true, Option, Some, None, Result, Ok, Err, IfErr, List, length, ◌⊎◌, ⊎_elim, sym, ap, subst, arith}
+use Rattle.std.proofs.Common.{◌≡◌, ◌≢◌, ℕ, [], ◌∷◌, cond, false, unwrap_or, ◌+◌, ◌≤◌, Bool, true, Option, Some, None, Result, Ok, Err, IfErr, List, length, ◌⊎◌, ⊎_elim, sym, ap, subst, arith}
 use Rattle.std.specs.FinMap.{empty, get, get-empty, insert, get-insert}
 use Rattle.std.specs.Option.{option_and_then}
 use Rattle.std.specs.Ordering.{eq_by_cmp}
@@ -27,6 +27,9 @@ use Rattle.txn_cli.specs.declared.fault.Fault.TheVariants as fault
 
 pub of_store_unspent : (f : Fault) → (f ≡ fault.Store) ⊎ (f ≡ fault.OutOfMemory) → IsUnspent f
 of_store_unspent f is = ⊎_elim (λ store. subst IsUnspent (sym store) tt) (λ memory. subst IsUnspent (sym memory) tt) is
+
+pub of_store_written : (f : Fault) → (f ≡ fault.Store) ⊎ (f ≡ fault.OutOfMemory) → f ≢ fault.Output
+of_store_written f is e = ⊎_elim (λ store. cc) (λ memory. cc) is
 
 -- what the calls for so many transactions use was there
 pub unspent : (c d : Content) (n : ℕ) (f : Fault) → Suffices c n → Uses c d n n 0 0 → HasReason d f → IsUnspent f

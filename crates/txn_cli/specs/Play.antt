@@ -63,7 +63,7 @@ is_allowed p statement.Show = true
 -- A batch was run over the one content, and left the other. The Run's base is what the store meant, and
 -- the order is legal and leads to what the store means now. Each transaction of the batch is applied or
 -- aborted and has its entry, and the order has no others; no other record was touched. Each used at most
--- one nonce, and one number of a document.
+-- one nonce, and one number of a document. One runner alone takes no turns.
 pub record RanBatch (old new : Content) (waiting : List Waiting) (run : Run) (lines : List ℕ) : Type 0 where
   pub opens : IsSound old
   pub closes : IsSound new
@@ -74,6 +74,7 @@ pub record RanBatch (old new : Content) (waiting : List Waiting) (run : Run) (li
   pub only : list_all (λ entry. waits waiting entry.id) run.order ≡ true
   pub others : (id : TxnId) → waits waiting id ≡ false → record_at new id ≡ record_at old id
   pub uses : Uses old new (length waiting) (length waiting) 0 0
+  pub turns : run.turns ≡ []
   pub text : lines ≡ batch_text new waiting
 
 -- a batch was run, and its Run is kept behind those before it
@@ -139,6 +140,14 @@ after_lines (suc n) script = after_line (after_lines n script)
 pub data Plays (script : List ℕ) (opening : Progress) : ℕ → Progress → Type 0 where
   Opens : Plays script opening 0 opening
   Then : (n : ℕ) (line : List ℕ) (p q : Progress) → Plays script opening n p → first_line (after_lines n script) ≡ Some line → PlaysLine line p q → Plays script opening (n + 1) q
+
+-- the next line of a script was done, or, where there is none, the batch that waits at its end
+abbrev pub DoesAs : Option (List ℕ) → Progress → Progress → Type 0
+DoesAs (Some line) p q = PlaysLine line p q
+DoesAs None p q = RunsWaiting p.waiting p q
+
+abbrev pub DoesNext : List ℕ → ℕ → Progress → Progress → Type 0
+DoesNext script n p q = DoesAs (first_line (after_lines n script)) p q
 
 -- After each line that was done, what the store held stands at a place of the trail. These places never
 -- fall, from that of the opening content on.

@@ -1,9 +1,10 @@
-use Rattle.std.specs.Prelude.{◌≡◌, ◌≢◌, ◌≤◌, ◌++◌, ℕ, Bool, IsTrue, List, None}
+use Rattle.std.specs.Prelude.{◌≡◌, ◌≢◌, ◌≤◌, ◌++◌, ◌⊎◌, ℕ, Bool, IsTrue, List, None}
 use Rattle.std.specs.FinMap.{empty}
 use Rattle.store_trait.specs.Calls.{CallsGoOn}
 use Rattle.store_trait.specs.Contents.{Content}
 use Rattle.txn_io.specs.Lines.{LinesView}
-use Rattle.txn_cli.specs.Play.{Progress, opening, IsAt, IsPlayed, Plays, PlaysLine, RunsWaiting, StandOnTrail}
+use Rattle.txn_io.specs.Pour.{IsPartPut}
+use Rattle.txn_cli.specs.Play.{Progress, opening, DoesNext, IsAt, IsPlayed, Plays, PlaysLine, RunsWaiting, StandOnTrail}
 use Rattle.txn_cli.specs.Refusals.{IsUnspent}
 use Rattle.txn_cli.specs.Runs.{GrowsByOne}
 use Rattle.txn_cli.specs.Sessions.{IsHeld, at}
@@ -39,6 +40,18 @@ pub record HasDoneLine {S : Type 0} (content : S → Content) (line : List ℕ) 
   pub plays : (printed : List ℕ) → PlaysLine line (at content old printed) (at content new (printed ++ lines))
   pub writes : IsTrue sink_tells → written ≡ old_written ++ lines
 
+-- a line was done, and the output failed before all that it prints was written
+pub record HasCutLine {S : Type 0} (content : S → Content) (line : List ℕ) (old new : Session S) (sink_tells : Bool) (old_written written : List ℕ) : Type 0 where
+  pub lines : List ℕ
+  pub plays : (printed : List ℕ) → PlaysLine line (at content old printed) (at content new (printed ++ lines))
+  pub part : IsTrue sink_tells → IsPartPut old_written written lines
+
+-- the batch that waited at the end was run, and the output failed before all that this prints was written
+pub record HasCutRest {S : Type 0} (content : S → Content) (old new : Session S) (sink_tells : Bool) (old_written written : List ℕ) : Type 0 where
+  pub lines : List ℕ
+  pub runs : (printed : List ℕ) → RunsWaiting old.batch (at content old printed) (at content new (printed ++ lines))
+  pub part : IsTrue sink_tells → IsPartPut old_written written lines
+
 -- the batch that waited at the end was run, and what that prints was written
 pub record HasRunRest {S : Type 0} (content : S → Content) (old new : Session S) (sink_tells : Bool) (old_written written : List ℕ) : Type 0 where
   pub lines : List ℕ
@@ -55,8 +68,21 @@ pub record HasPlayed (script : List ℕ) (start : Progress) (content : Content) 
   pub kept : end.runs ≡ runs
   pub writes : IsTrue sink_tells → written ≡ old_written ++ end.printed
 
--- some first lines of a script were done, and what they print was written, and nothing else; the Runs
--- are theirs, and one more where the next line was refused while its batch ran
+-- what comes next in a script was done, and this is what it prints
+pub record PrintsNext (script : List ℕ) (done : ℕ) (last : Progress) (lines : List ℕ) : Type 0 where
+  pub next : Progress
+  pub does : DoesNext script done last next
+  pub prints : next.printed ≡ last.printed ++ lines
+
+-- what comes next was done, and the output failed before all that it prints was written
+pub record HasCut (script : List ℕ) (done : ℕ) (last : Progress) (sink_tells : Bool) (before written : List ℕ) : Type 0 where
+  pub lines : List ℕ
+  pub next : PrintsNext script done last lines
+  pub part : IsTrue sink_tells → IsPartPut before written lines
+
+-- some first lines of a script were done, and what they print was written, and nothing else but a part of
+-- what comes next where the output failed; the Runs are theirs, and one more where the next line was refused
+-- while its batch ran
 pub record HasStopped (script : List ℕ) (start : Progress) (place : ℕ → Content) (from to : ℕ) (why : Fault) (runs : List Run) (sink_tells : Bool) (old_written written : List ℕ) : Type 0 where
   pub done : ℕ
   pub last : Progress
@@ -65,11 +91,23 @@ pub record HasStopped (script : List ℕ) (start : Progress) (place : ℕ → Co
   pub kept : GrowsByOne last.runs runs
   pub unspent : IsUnspent why
   pub writes : IsTrue sink_tells → why ≢ fault.Output → written ≡ old_written ++ last.printed
+  pub cut : why ≡ fault.Output → HasCut script done last sink_tells (old_written ++ last.printed) written
+
+-- What was still to be written behind the lines that were done: the line of the refusal; where the output
+-- failed, what comes next prints, or the line of another refusal.
+abbrev pub IsOwed : List ℕ → ℕ → Progress → Fault → List ℕ → Type 0
+IsOwed script done last fault.Output owed = PrintsNext script done last owed ⊎ ((why : Fault) × (owed ≡ fault_text why))
+IsOwed script done last why owed = owed ≡ fault_text why
+
+-- It was written; some first bytes of it where the output failed, or memory was wanting.
+abbrev pub IsWritten : Fault → List ℕ → List ℕ → List ℕ → Type 0
+IsWritten fault.Output before written owed = IsPartPut before written owed
+IsWritten fault.OutOfMemory before written owed = IsPartPut before written owed
+IsWritten why before written owed = written ≡ before ++ owed
 
 -- Some first lines of a script were done, and the call ended with a refusal: what the store held after each
 -- stands on its trail; the Runs are theirs, and one more where the next line was refused while its batch ran;
--- no nonce or number was wanting; what the lines print was written, and the line of the refusal. After a fault
--- of the output, or for want of memory, less may be written.
+-- no nonce or number was wanting; what the lines print was written, and the line of the refusal behind it.
 pub record HasRefused (script : List ℕ) (start : Progress) (place : ℕ → Content) (from to : ℕ) (why : Fault) (runs : List Run) (sink_tells : Bool) (old_written written : List ℕ) : Type 0 where
   pub done : ℕ
   pub last : Progress
@@ -77,4 +115,6 @@ pub record HasRefused (script : List ℕ) (start : Progress) (place : ℕ → Co
   pub stand : StandOnTrail place from to plays
   pub kept : GrowsByOne last.runs runs
   pub unspent : IsUnspent why
-  pub writes : IsTrue sink_tells → why ≢ fault.Output → why ≢ fault.OutOfMemory → written ≡ old_written ++ (last.printed ++ fault_text why)
+  pub owed : List ℕ
+  pub is_owed : IsOwed script done last why owed
+  pub writes : IsTrue sink_tells → IsWritten why (old_written ++ last.printed) written owed

@@ -8,7 +8,8 @@ ghost use Rattle.store_trait.specs.Contents.{Content};
 ghost use Rattle.txn_cli.specs.Faulting.{status_of, fault_of_line};
 ghost use Rattle.txn_cli.specs.Outcomes.{has_aborted, is_aborted};
 ghost use Rattle.txn_cli.specs.Play.{opening, Refuses, IsRefusedAt, IsValid, is_grammar};
-ghost use Rattle.txn_cli.specs.Reading.{HasDoneLine, HasRunRest, HasPlayed, HasStopped, HasRefused};
+ghost use Rattle.txn_cli.specs.Reading.{HasDoneLine, HasCutLine, HasRunRest, HasCutRest, HasPlayed, HasStopped, HasRefused};
+ghost use Rattle.txn_io.specs.Pour.{IsPartPut};
 ghost use Rattle.txn_cli.specs.Refusals.{HasCause, HasReason, IsOfLine, IsOfStatement, IsOfReading, IsUnspent};
 ghost use Rattle.txn_cli.specs.Runs.{AreFaithful, GrowsByOne, RunsGoOn};
 ghost use Rattle.txn_cli.specs.Sessions.{IsHeld, at};
@@ -266,6 +267,8 @@ fn play_line<S: Store, O: Sink>(
     requires held { IsTrue S.tells → IsTrue session.old.was_empty → IsHeld S.content S.place S.calls session.old }
     ensures done { IsTrue S.tells → IsTrue session.old.was_empty → OnOk result
         (HasDoneLine S.content line.now session.old session.new O.tells (O.written output.old) (O.written output.new)) }
+    ensures cut { IsTrue S.tells → IsTrue session.old.was_empty → IfErr result (λ fault. fault ≡ Fault.Output →
+        HasCutLine S.content line.now session.old session.new O.tells (O.written output.old) (O.written output.new)) }
     ensures held { IsTrue S.tells → IsTrue session.old.was_empty → OnOk result (IsHeld S.content S.place S.calls session.new) }
     ensures runs { IsTrue S.tells → IsTrue session.old.was_empty →
         RunsGoOn (S.place session.new.store) session.new.runs.items (S.calls session.new.store) }
@@ -305,6 +308,8 @@ fn finish<S: Store, O: Sink>(
     requires held { IsTrue S.tells → IsTrue session.old.was_empty → IsHeld S.content S.place S.calls session.old }
     ensures done { IsTrue S.tells → IsTrue session.old.was_empty → OnOk result
         (HasRunRest S.content session.old session.new O.tells (O.written output.old) (O.written output.new)) }
+    ensures cut { IsTrue S.tells → IsTrue session.old.was_empty → IfErr result (λ fault. fault ≡ Fault.Output →
+        HasCutRest S.content session.old session.new O.tells (O.written output.old) (O.written output.new)) }
     ensures runs { IsTrue S.tells → IsTrue session.old.was_empty →
         RunsGoOn (S.place session.new.store) session.new.runs.items (S.calls session.new.store) }
     ensures grown { GrowsByOne session.old.runs.items session.new.runs.items }
@@ -326,6 +331,7 @@ fn finish<S: Store, O: Sink>(
 
 fn write<O: Sink>(output: &mut O, bytes: &[u8]) -> Result<(), Fault>
     ensures whole { IsTrue O.tells → OnOk result (O.written output.new ≡ O.written output.old ++ bytes.now) }
+    ensures part { IsTrue O.tells → OnErr result (IsPartPut (O.written output.old) (O.written output.new) bytes.now) }
     ensures kind { IfErr result (λ fault. fault ≡ Fault.Output) }
     ensures output { OnErr result (Rose (O.faults output.old) (O.faults output.new)) }
     ensures later { O.faults output.old ≤ O.faults output.new }
@@ -353,21 +359,39 @@ fn line_fault(alloc: Global, number: u64, fault: LineFault) -> Fault
 }
 
 /// Writes the last line of a refusal, and answers the refusal that the call ends with: another one
-/// where the line can't be made or written.
+/// where the line can't be made or written. After a fault of the output there is none.
 fn tell<O: Sink>(alloc: Global, output: &mut O, fault: Fault) -> Fault
     ensures kept { (result ≡ fault) ⊎ (result ≡ Fault.OutOfMemory)
         ⊎ ((result ≡ Fault.Output) × Rose (O.faults output.old) (O.faults output.new)) }
+    ensures output { fault ≡ Fault.Output → (result ≡ Fault.Output) × (O.written output.new ≡ O.written output.old) }
     ensures told { IsTrue O.tells → result ≢ Fault.Output → result ≢ Fault.OutOfMemory →
         O.written output.new ≡ O.written output.old ++ fault_text result }
+    ensures memory { IsTrue O.tells → result ≡ Fault.OutOfMemory →
+        IsPartPut (O.written output.old) (O.written output.new) (fault_text Fault.OutOfMemory) }
+    ensures cut { IsTrue O.tells → fault ≢ Fault.Output → result ≡ Fault.Output →
+        IsPartPut (O.written output.old) (O.written output.new) (fault_text fault) }
     ensures later { O.faults output.old ≤ O.faults output.new }
 {
-    let Ok(line) = last_line(alloc, &fault) else {
-        let _ = pour(output, b"out of memory\n");
-        return Fault::OutOfMemory;
-    };
-    if pour(output, line.as_slice()).is_ok() || fault.is_memory() {
-        fault
-    } else {
-        Fault::Output
+    if fault.is_output() {
+        return fault;
     }
+    let line = match last_line(alloc, &fault) {
+        Ok(line) if !fault.is_memory() => line,
+        _ => {
+            write_first(output, b"out of memory\n");
+            return Fault::OutOfMemory;
+        }
+    };
+    match write(output, line.as_slice()) {
+        Ok(()) => fault,
+        Err(unwritten) => unwritten,
+    }
+}
+
+/// Writes as much of a line as the output takes.
+fn write_first<O: Sink>(output: &mut O, line: &[u8])
+    ensures part { IsTrue O.tells → IsPartPut (O.written output.old) (O.written output.new) line.now }
+    ensures later { O.faults output.old ≤ O.faults output.new }
+{
+    let _ = pour(output, line);
 }

@@ -52,6 +52,13 @@ impl Fault {
         }
     }
 
+    /// Whether the output failed.
+    pub fn is_output(&self) -> bool
+        ensures { IsTrue result ↔ (self.now ≡ Fault.Output) }
+    {
+        matches!(self, Fault::Output)
+    }
+
     /// Whether it is want of memory.
     pub fn is_memory(&self) -> bool
         ensures { IsTrue result ↔ (self.now ≡ Fault.OutOfMemory) }

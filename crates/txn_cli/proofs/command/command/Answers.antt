@@ -9,4 +9,4 @@ pub returns-in-Err-clause-runs : goal.returns-in-Err-clause-runs
 returns-in-Err-clause-runs g c = λ told e. runs_faithful _ _ _ (c.run-played.ensures.runs told e)
 
 pub returns-in-Err-clause-refused : goal.returns-in-Err-clause-refused
-returns-in-Err-clause-refused g c = λ src told e. refuses_out _ _ _ _ _ _ _ _ _ _ _ _ _ (rw c.in-Err.is at (c.run-played.ensures.stopped src told e)) c.tell-fault.ensures.kept c.tell-fault.ensures.told
+returns-in-Err-clause-refused g c = λ src told e. refuses_out _ _ _ _ _ _ _ _ _ _ _ _ _ (rw c.in-Err.is at (c.run-played.ensures.stopped src told e)) c.tell-fault.ensures.kept c.tell-fault.ensures.output c.tell-fault.ensures.told c.tell-fault.ensures.memory c.tell-fault.ensures.cut

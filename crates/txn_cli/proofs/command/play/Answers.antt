@@ -1,11 +1,12 @@
 use Rattle.txn_cli.proofs.Caused.{caused_before, causes_before}
-use Rattle.std.proofs.Common.{inl, ap, [], refl, sym, ◌∙◌, arith}
+use Rattle.std.proofs.Common.{inl, ap, [], refl, sym, subst, ◌∙◌, arith}
 use Rattle.txn_cli.specs.Play.{Progress}
+use Rattle.txn_cli.specs.Refusals.{IsOfReading}
 use Rattle.std.proofs.lemmas.Result.{err_from_is_err_and}
 use Rattle.txn_runner.proofs.CallsMade.{calls_then}
 use Rattle.txn_cli.proofs.Playing.{line_read, refuses_line, on_ok, unread}
-use Rattle.txn_cli.proofs.Readings.{begins_held, begins_come, begins_stopped, refused_alike, stops, stops_at_end, plays_out, comes_further}
-use Rattle.txn_cli.proofs.Spending.{of_store_unspent, suffices_at}
+use Rattle.txn_cli.proofs.Readings.{begins_held, begins_come, begins_stopped, cut_line, refused_alike, stops, stops_at_end, plays_out, comes_further}
+use Rattle.txn_cli.proofs.Spending.{of_store_unspent, of_store_written, suffices_at}
 use Rattle.txn_cli.proofs.command.play.Goals as goal
 
 pub loop-done-init : goal.loop-done-init
@@ -32,7 +33,8 @@ returns-in_err-play_line-in-Ok-Some-clause-line g c = λ src told e.
 pub returns-in_err-play_line-in-Ok-Some-clause-stopped : goal.returns-in_err-play_line-in-Ok-Some-clause-stopped
 returns-in_err-play_line-in-Ok-Some-clause-stopped g c = λ src told e.
     let p = err_from_is_err_and c.from_residual-in_err-play_line-in-Ok-Some.result c.from_residual-in_err-play_line-in-Ok-Some.ensures.1 in
-    rw (p.1, p.2) (stops _ _ _ _ _ _ _ _ _ _ _ _ _ _ _ (c.in_err-play_line-in-Ok-Some.ensures.calls.trail told).before c.in_err-play_line-in-Ok-Some.ensures.calls.counted _ _ _ (c.loop-done.invariant.come src told e) c.in_err-play_line-in-Ok-Some.ensures.grown (c.in_err-play_line-in-Ok-Some.ensures.enough told (c.loop-done.invariant.was_empty told e) (suffices_at _ _ e _ _ (c.loop-done.invariant.come src told e).plays.plays (omega (arith, c.loop-done.invariant.counted, c.loop-done.invariant.within)))) (λ tells other. c.in_err-play_line-in-Ok-Some.ensures.unwritten tells other))
+    let first = line_read _ _ _ (rw c.in-Ok-Some.field-0-is at (c.in-Ok-Some.ensures.line src)) in
+    rw (p.1, p.2) (stops _ _ _ _ _ _ _ _ _ _ _ _ _ _ _ (c.in_err-play_line-in-Ok-Some.ensures.calls.trail told).before c.in_err-play_line-in-Ok-Some.ensures.calls.counted _ _ _ (c.loop-done.invariant.come src told e) c.in_err-play_line-in-Ok-Some.ensures.grown (c.in_err-play_line-in-Ok-Some.ensures.enough told (c.loop-done.invariant.was_empty told e) (suffices_at _ _ e _ _ (c.loop-done.invariant.come src told e).plays.plays (omega (arith, c.loop-done.invariant.counted, c.loop-done.invariant.within)))) (λ tells other. c.in_err-play_line-in-Ok-Some.ensures.unwritten tells other) (λ out. cut_line _ _ _ _ _ _ _ _ _ _ _ _ _ _ _ (c.in_err-play_line-in-Ok-Some.ensures.calls.trail told).before c.in_err-play_line-in-Ok-Some.ensures.calls.counted _ _ _ (c.loop-done.invariant.come src told e) first (rw c.as_slice.ensures.value at (c.in_err-play_line-in-Ok-Some.ensures.cut told (c.loop-done.invariant.was_empty told e) out))))
 
 pub returns-in_err-play_line-in-Ok-Some-clause-runs : goal.returns-in_err-play_line-in-Ok-Some-clause-runs
 returns-in_err-play_line-in-Ok-Some-clause-runs g c = λ told e. c.in_err-play_line-in-Ok-Some.ensures.runs told (c.loop-done.invariant.was_empty told e)
@@ -48,7 +50,7 @@ returns-in-Ok-None-clause-played g c = λ src told e.
     on_ok c.finish.result _ _ (c.finish.ensures.done told (c.loop-done.invariant.was_empty told e)) (λ runs. plays_out _ _ _ _ _ _ _ _ _ _ _ _ _ _ _ (c.finish.ensures.calls.trail told).before c.finish.ensures.calls.counted _ _ (c.loop-done.invariant.come src told e) none runs)
 
 pub returns-in-Ok-None-clause-stopped : goal.returns-in-Ok-None-clause-stopped
-returns-in-Ok-None-clause-stopped g c = λ src told e. stops_at_end _ _ _ _ _ _ _ _ _ _ _ _ _ _ _ (c.finish.ensures.calls.trail told).before c.finish.ensures.calls.counted _ _ _ (c.loop-done.invariant.come src told e) c.finish.ensures.grown (c.finish.ensures.enough told (c.loop-done.invariant.was_empty told e) (suffices_at _ _ e _ _ (c.loop-done.invariant.come src told e).plays.plays (omega (arith, c.loop-done.invariant.counted, c.loop-done.invariant.within)))) c.finish.ensures.unwritten
+returns-in-Ok-None-clause-stopped g c = λ src told e. stops_at_end _ _ _ _ _ _ _ _ _ _ _ _ _ _ _ (c.finish.ensures.calls.trail told).before c.finish.ensures.calls.counted _ _ _ (c.loop-done.invariant.come src told e) c.finish.ensures.grown (c.finish.ensures.enough told (c.loop-done.invariant.was_empty told e) (suffices_at _ _ e _ _ (c.loop-done.invariant.come src told e).plays.plays (omega (arith, c.loop-done.invariant.counted, c.loop-done.invariant.within)))) c.finish.ensures.unwritten (line_read _ _ _ (rw c.in-Ok-None.field-0-is at (c.in-Ok-None.ensures.line src))) (c.finish.ensures.cut told (c.loop-done.invariant.was_empty told e))
 
 pub returns-in-Ok-None-clause-runs : goal.returns-in-Ok-None-clause-runs
 returns-in-Ok-None-clause-runs g c = λ told e. c.finish.ensures.runs told (c.loop-done.invariant.was_empty told e)
@@ -57,7 +59,7 @@ pub returns-in-Ok-None-clause-reason : goal.returns-in-Ok-None-clause-reason
 returns-in-Ok-None-clause-reason g c = λ told e. c.finish.ensures.reason told (c.loop-done.invariant.was_empty told e)
 
 pub returns-in-Err-clause-stopped : goal.returns-in-Err-clause-stopped
-returns-in-Err-clause-stopped g c = λ src told e. stops _ _ _ _ _ _ _ _ _ _ _ _ _ _ _ (λ k low. refl) (omega arith) _ _ _ (c.loop-done.invariant.come src told e) (inl refl) c.line_fault.ensures.unspent (λ tells other. refl)
+returns-in-Err-clause-stopped g c = λ src told e. stops _ _ _ _ _ _ _ _ _ _ _ _ _ _ _ (λ k low. refl) (omega arith) _ _ _ (c.loop-done.invariant.come src told e) (inl refl) c.line_fault.ensures.unspent (λ tells other. refl) (λ out. absurd (subst IsOfReading out c.line_fault.ensures.kind))
 
 pub returns-in-Err-clause-runs : goal.returns-in-Err-clause-runs
 returns-in-Err-clause-runs g c = λ told e. (c.loop-done.invariant.held told e).runs
@@ -99,7 +101,7 @@ finish-requires g c = record { held = λ told was. c.loop-done.invariant.held to
 pub returns-in_err-session-clause-stopped : goal.returns-in_err-session-clause-stopped
 returns-in_err-session-clause-stopped g c = λ src told e.
     let p = err_from_is_err_and c.from_residual.result c.from_residual.ensures.1 in
-    rw (p.1, p.2) (begins_stopped _ _ _ _ _ _ _ _ _ c.in_err-session.ensures.calls.counted refl (ap (λ (p : Progress). p.runs) c.requires.begins) (of_store_unspent _ c.in_err-session.ensures.kind))
+    rw (p.1, p.2) (begins_stopped _ _ _ _ _ _ _ _ _ c.in_err-session.ensures.calls.counted refl (ap (λ (p : Progress). p.runs) c.requires.begins) (of_store_unspent _ c.in_err-session.ensures.kind) (of_store_written _ c.in_err-session.ensures.kind))
 
 pub returns-in_err-play_line-in-Ok-Some-clause-cause : goal.returns-in_err-play_line-in-Ok-Some-clause-cause
 returns-in_err-play_line-in-Ok-Some-clause-cause g c =

@@ -24,7 +24,7 @@ returns-clause-done g c = λ told.
     if_ok c.run_all-lines.result _ _ (c.run_all-lines.ensures.done told)
     (λ lines done. batch_done _ _ _ _ _ _ _ _ _ (record { base = c.in-Ok.base; order = c.run_all-lines.new.order.items; mark = c.calls-mark.result; turns = [] }) told (λ s. g.met.S.Store.present s told) may (c.in-Ok.ensures.reads told) c.in-Ok.ensures.calls c.run_all-lines.ensures.calls
     c.calls-mark.ensures (c.in-Ok.ensures.listed told may.calm.plain ∙ sym (meaning-rest _ may.calm.sound may.calm.rests) ∙ ap meaning (sym (c.in-Ok.ensures.reads told).same)) (rw c.new-order.ensures.items at (c.run_all-lines.ensures.works told))
-    _ _ _ (rw (c.in-Ok-push.ensures.items, c.in_ok-reserve.ensures.items, c.from_vec.ensures, c.new.ensures) refl) (c.run_all-lines.ensures.uses told) done)
+    _ _ _ refl (rw (c.in-Ok-push.ensures.items, c.in_ok-reserve.ensures.items, c.from_vec.ensures, c.new.ensures) refl) (c.run_all-lines.ensures.uses told) done)
 
 pub returns-clause-grown : goal.returns-clause-grown
 returns-clause-grown g c = inr (record { base = c.in-Ok.base; order = c.run_all-lines.new.order.items; mark = c.calls-mark.result; turns = [] }, (rw (c.in-Ok-push.ensures.items, c.in_ok-reserve.ensures.items, c.from_vec.ensures, c.new.ensures) refl))
