@@ -8,7 +8,8 @@ use Rattle.std.specs.FinMap.Entries.{find as value_of}
 use Rattle.std.specs.Cmp.{alike_right, tied_itself, eq_by_cmp_equiv}
 use Rattle.store_trait.specs.Names.{name_cmp, may_stand, may_hold}
 use Rattle.store_trait.specs.Contents.{Content, named, is_past}
-use Rattle.store_trait.specs.Edits.{Hit, may_leave}
+use Rattle.store_trait.specs.Edits.{Hit, may_leave, hit as hit_of}
+use Rattle.store_trait.specs.declared.edit.Edit.{Edit}
 use Rattle.store_trait.specs.declared.name.Name.{Name}
 use Rattle.store_trait.specs.declared.cell.Cell.{Cell}
 use Rattle.store_trait.specs.declared.cell.Named.{Named}
@@ -18,7 +19,7 @@ use Rattle.store_trait.proofs.NameOrder.{name_cmp_total, name_cmp-IsAntisymmetri
 use Rattle.store_memory.specs.declared.log.Logged.{Logged}
 use Rattle.store_memory.specs.Told.{Told, content_of, fault_limit, logged, called}
 use Rattle.store_memory.specs.CallsMade.{IsKept}
-use Rattle.store_memory.proofs.Trail.{content_stays, later_made, content_after, called_made}
+use Rattle.store_memory.proofs.Trail.{content_stays, later_made, content_after, called_made, logged_at}
 
 abbrev pub Entry : Type 0
 Entry = Name × Cell
@@ -143,27 +144,27 @@ entries-remove c name =
     ∙ ap (λ o. cond (not (eq_by_cmp name_cmp name q)) o None) (get-entries c q)
     ∙ sym (find-where_key name_cmp (λ other. not (eq_by_cmp name_cmp name other)) q (alike q) (entries c)))
 
--- a cell that is put under its name, and in the log
-pub kept_put : (cells now : List Entry) (log longer : List Logged) (fails : List ℕ) (calls faults : ℕ) (name : Name) (after : Cell) → IsKept cells (told_of log fails calls faults) → may_stand name after ≡ true → now ≡ put name_cmp name after cells → longer ≡ log ++ logged (calls + 1) name (Some (Some after)) → IsKept now (told_of longer fails (calls + 1) faults)
-kept_put cells now log longer fails calls faults name after kept kind is logs =
+-- an edit puts a cell under its name
+pub kept_put : (cells now : List Entry) (log longer : List Logged) (fails : List ℕ) (calls faults : ℕ) (name : Name) (edit : Edit) (after : Cell) → IsKept cells (told_of log fails calls faults) → may_stand name after ≡ true → hit_of edit name (get (content_of (told_of log fails calls faults)) name) ≡ Some (Some after) → now ≡ put name_cmp name after cells → longer ≡ log ++ logged (calls + 1) name edit (Some (Some after)) → IsKept now (told_of longer fails (calls + 1) faults)
+kept_put cells now log longer fails calls faults name edit after kept kind hits is logs =
     let told = told_of log fails calls faults in
-    let new : Told = called told (logged (calls + 1) name (Some (Some after))) in
+    let new : Told = called told (logged (calls + 1) name edit (Some (Some after))) in
     let put_there : IsKept now new = record {
-      present = ap entries (content_after told name (Some (Some after)) kept.counted.made) ∙ entries-insert name_cmp_total (content_of told) name after ∙ ap (put name_cmp name after) kept.present ∙ sym is;
+      present = ap entries (content_after told name edit (Some (Some after)) kept.counted.made hits) ∙ entries-insert name_cmp_total (content_of told) name after ∙ ap (put name_cmp name after) kept.present ∙ sym is;
       kinds = ap (list_all (λ entry. may_stand entry.0 entry.1)) is ∙ put_good (λ entry. may_stand entry.0 entry.1) name after cells kept.kinds kind;
-      counted = record { made = called_made told name (Some (Some after)) kept.counted.made; faults = kept.counted.faults };
+      counted = record { made = called_made told _ (logged_at (calls + 1) name edit (Some (Some after))) kept.counted.made; faults = kept.counted.faults };
     } in
     subst (λ (l : List Logged). IsKept now (told_of l fails (calls + 1) faults)) (sym logs) put_there
 
--- a cell that is taken out
-pub kept_out : (cells now : List Entry) (log longer : List Logged) (fails : List ℕ) (calls faults : ℕ) (name : Name) → IsKept cells (told_of log fails calls faults) → now ≡ others name cells → longer ≡ log ++ logged (calls + 1) name (Some None) → IsKept now (told_of longer fails (calls + 1) faults)
-kept_out cells now log longer fails calls faults name kept is logs =
+-- an edit takes a cell out
+pub kept_out : (cells now : List Entry) (log longer : List Logged) (fails : List ℕ) (calls faults : ℕ) (name : Name) (edit : Edit) → IsKept cells (told_of log fails calls faults) → hit_of edit name (get (content_of (told_of log fails calls faults)) name) ≡ Some None → now ≡ others name cells → longer ≡ log ++ logged (calls + 1) name edit (Some None) → IsKept now (told_of longer fails (calls + 1) faults)
+kept_out cells now log longer fails calls faults name edit kept hits is logs =
     let told = told_of log fails calls faults in
-    let new : Told = called told (logged (calls + 1) name (Some None)) in
+    let new : Told = called told (logged (calls + 1) name edit (Some None)) in
     let out : IsKept now new = record {
-      present = ap entries (content_after told name (Some None) kept.counted.made) ∙ entries-remove (content_of told) name ∙ ap (others name) kept.present ∙ sym is;
+      present = ap entries (content_after told name edit (Some None) kept.counted.made hits) ∙ entries-remove (content_of told) name ∙ ap (others name) kept.present ∙ sym is;
       kinds = ap (list_all (λ entry. may_stand entry.0 entry.1)) is ∙ where_good (λ entry. may_stand entry.0 entry.1) _ cells kept.kinds;
-      counted = record { made = called_made told name (Some None) kept.counted.made; faults = kept.counted.faults };
+      counted = record { made = called_made told _ (logged_at (calls + 1) name edit (Some None)) kept.counted.made; faults = kept.counted.faults };
     } in
     subst (λ (l : List Logged). IsKept now (told_of l fails (calls + 1) faults)) (sym logs) out
 

@@ -3,11 +3,12 @@ use Rattle.std.specs.Coded.{Coded, code_by, coded×, coded_list, coded_ℕ}
 use Rattle.std.specs.List.{list_any}
 use Rattle.std.specs.FinMap.{empty}
 use Rattle.store_trait.specs.Contents.{Content}
-use Rattle.store_trait.specs.Edits.{Hit, put_under}
+use Rattle.store_trait.specs.Edits.{Hit, edited}
+use Rattle.store_trait.specs.declared.edit.Edit.{Edit}
 use Rattle.store_trait.specs.declared.name.Name.{Name}
 use Rattle.store_memory.specs.declared.log.Logged.{Logged}
 
--- what a store in memory tells: the changes of cells in the order of their calls, the numbers of the
+-- what a store in memory tells: the edits that changed cells in the order of their calls, the numbers of the
 -- calls that fail, how many calls were made, and how many faults there were
 pub record Told : Type 0 where
   pub log : List Logged
@@ -25,7 +26,7 @@ opened fails = record { log = []; fails = fails; calls = 0; faults = 0 }
 
 -- the content with a change, if that was made by then
 abbrev pub with_change : ℕ → Logged → Content → Content
-with_change calls change content = if nat_le change.at calls then put_under content change.name (Some change.cell) else content
+with_change calls change content = if nat_le change.at calls then edited content change.name change.edit else content
 
 -- the content after so many calls
 abbrev pub replayed : Content → List Logged → ℕ → Content
@@ -72,9 +73,9 @@ abbrev pub failed : Told → Told
 failed told = record told { calls = if nat_le call_limit told.calls then told.calls else told.calls + 1; faults = min (told.faults + 1) fault_limit }
 
 -- what the log gets of an edit of a cell: nothing where it missed
-abbrev pub logged : ℕ → Name → Hit → List Logged
-logged call name None = []
-logged call name (Some after) = record { at = call; name = name; cell = after } ∷ []
+abbrev pub logged : ℕ → Name → Edit → Hit → List Logged
+logged call name edit None = []
+logged call name edit (Some after) = record { at = call; name = name; edit = edit } ∷ []
 
 -- what is told once the next call was made, with these changes
 abbrev pub called : Told → List Logged → Told

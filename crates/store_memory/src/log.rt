@@ -1,9 +1,10 @@
-use store_trait::{Cell, Name};
+use store_trait::{Edit, Name};
 
-/// A change of a cell: its call, and the cell after it, if one is left.
+/// An edit that changed a cell, and the number of its call. Made again, one after another, such edits
+/// give the content after each call.
 #[derive(Drop)]
 pub struct Logged {
     pub at: u64,
     pub name: Name,
-    pub cell: Option<Cell>,
+    pub edit: Edit,
 }

@@ -21,8 +21,8 @@ use store_trait::{Cell, Changed, Edit, Edited, Name, Named, StoreError, change};
 /// How many calls are counted at most.
 const CALL_LIMIT: u64 = 1 << 63;
 
-/// A store in memory. It keeps the cells in the order of their names, and the log of their changes,
-/// from which it tells the content after each call. Chosen calls fail.
+/// A store in memory. It keeps the cells in the order of their names, and the log of the edits that changed
+/// them, from which it tells the content after each call. Chosen calls fail.
 #[derive(Drop)]
 pub struct MemoryStore {
     cells: Vec<Slot>,
@@ -133,7 +133,7 @@ impl MemoryStore {
         ensures after { IfOk result (λ done. done.cell ≡ get (content_of self.new) name.now) }
         ensures kind { IfOk result (λ done. IfSome done.cell (λ cell. IsTrue (may_stand name.now cell))) }
         ensures call { IsCall self.old self.new
-            (logged (self.old.calls + 1) name.now (hit edit.now name.now (get (content_of self.old) name.now)))
+            (logged (self.old.calls + 1) name.now edit.now (hit edit.now name.now (get (content_of self.old) name.now)))
             result }
     {
         if self.fails_next() {
@@ -150,14 +150,14 @@ impl MemoryStore {
         ensures after { IfOk result (λ done. done.cell ≡ get (content_of self.new) name.now) }
         ensures kind { IfOk result (λ done. IfSome done.cell (λ cell. IsTrue (may_stand name.now cell))) }
         ensures told { OnOk result (self.new ≡ called self.old
-            (logged (self.old.calls + 1) name.now (hit edit.now name.now (get (content_of self.old) name.now)))) }
+            (logged (self.old.calls + 1) name.now edit.now (hit edit.now name.now (get (content_of self.old) name.now)))) }
         ensures err { OnErr result (self.new ≡ self.old) }
         ensures counted { IsCounted self.old }
     {
         match self.changed(alloc, name, edit)? {
             Changed::Missed => self.miss(alloc, name),
-            Changed::Put(after) => self.put(alloc, name, after),
-            Changed::Gone => self.take_out(alloc, name),
+            Changed::Put(after) => self.put(alloc, name, edit, after),
+            Changed::Gone => self.take_out(alloc, name, edit),
         }
     }
 
@@ -177,7 +177,7 @@ impl MemoryStore {
         ensures hit { IfOk result (λ done. done.hit ≡ false) }
         ensures after { IfOk result (λ done. done.cell ≡ get (content_of self.new) name.now) }
         ensures kind { IfOk result (λ done. IfSome done.cell (λ cell. IsTrue (may_stand name.now cell))) }
-        ensures told { OnOk result (self.new ≡ called self.old (logged (self.old.calls + 1) name.now None)) }
+        ensures told { OnOk result (self.new ≡ called self.old []) }
         ensures err { OnErr result (self.new ≡ self.old) }
     {
         let cell = places::copy_under(alloc, &self.cells, name)?;
@@ -185,14 +185,21 @@ impl MemoryStore {
         Ok(Edited { hit: false, cell })
     }
 
-    /// Puts a cell under a name, and counts the call.
-    fn put(&mut self, alloc: Global, name: &Name, after: Cell) -> Result<Edited, OutOfMemory>
+    /// Puts the cell that an edit makes under a name, and counts the call.
+    fn put(
+        &mut self,
+        alloc: Global,
+        name: &Name,
+        edit: &Edit,
+        after: Cell,
+    ) -> Result<Edited, OutOfMemory>
         requires room { self.old.calls < call_limit }
+        requires hits { hit edit.now name.now (get (content_of self.old) name.now) ≡ Some (Some after) }
         requires kind { IsTrue (may_stand name.now after) }
         ensures hit { IfOk result (λ done. done.hit ≡ true) }
         ensures after { IfOk result (λ done. done.cell ≡ get (content_of self.new) name.now) }
         ensures kind { IfOk result (λ done. IfSome done.cell (λ cell. IsTrue (may_stand name.now cell))) }
-        ensures told { OnOk result (self.new ≡ called self.old (logged (self.old.calls + 1) name.now (Some (Some after)))) }
+        ensures told { OnOk result (self.new ≡ called self.old (logged (self.old.calls + 1) name.now edit.now (Some (Some after)))) }
         ensures err { OnErr result (self.new ≡ self.old) }
     {
         let cell = write(
@@ -201,6 +208,7 @@ impl MemoryStore {
             &mut self.log,
             self.calls + 1,
             name,
+            edit,
             after,
         )?;
         self.calls += 1;
@@ -210,16 +218,24 @@ impl MemoryStore {
         })
     }
 
-    /// Takes out the cell under a name, and counts the call.
-    fn take_out(&mut self, alloc: Global, name: &Name) -> Result<Edited, OutOfMemory>
-        requires { self.old.calls < call_limit }
+    /// Takes out the cell under a name, as an edit does, and counts the call.
+    fn take_out(&mut self, alloc: Global, name: &Name, edit: &Edit) -> Result<Edited, OutOfMemory>
+        requires room { self.old.calls < call_limit }
+        requires hits { hit edit.now name.now (get (content_of self.old) name.now) ≡ Some None }
         ensures hit { IfOk result (λ done. done.hit ≡ true) }
         ensures after { IfOk result (λ done. done.cell ≡ get (content_of self.new) name.now) }
         ensures kind { IfOk result (λ done. IfSome done.cell (λ cell. IsTrue (may_stand name.now cell))) }
-        ensures told { OnOk result (self.new ≡ called self.old (logged (self.old.calls + 1) name.now (Some None))) }
+        ensures told { OnOk result (self.new ≡ called self.old (logged (self.old.calls + 1) name.now edit.now (Some None))) }
         ensures err { OnErr result (self.new ≡ self.old) }
     {
-        erase(alloc, &mut self.cells, &mut self.log, self.calls + 1, name)?;
+        erase(
+            alloc,
+            &mut self.cells,
+            &mut self.log,
+            self.calls + 1,
+            name,
+            edit,
+        )?;
         self.calls += 1;
         Ok(Edited {
             hit: true,
@@ -236,67 +252,65 @@ fn counted_failure(calls: u64) -> u64
     if calls < CALL_LIMIT { calls + 1 } else { calls }
 }
 
-/// Puts a cell under a name and into the log, and answers a copy. Memory is taken first.
+/// Puts the cell that an edit makes under a name, and the edit into the log; answers a copy of the cell.
+/// Memory is taken first.
 fn write(
     alloc: Global,
     cells: &mut Vec<Slot>,
     log: &mut Vec<Logged>,
     call: u64,
     name: &Name,
+    edit: &Edit,
     after: Cell,
 ) -> Result<Cell, OutOfMemory>
     requires { IsTrue (is_sorted name_cmp cells.old.items) }
     ensures answer { IfOk result (λ cell. cell ≡ after) }
     ensures cells { OnOk result (cells.new.items ≡ put name_cmp name.now after cells.old.items) }
-    ensures log { OnOk result (log.new.items ≡ log.old.items ++ logged call name.now (Some (Some after))) }
+    ensures log { OnOk result (log.new.items ≡ log.old.items ++ logged call name.now edit.now (Some (Some after))) }
     ensures cells_err { OnErr result (cells.new.items ≡ cells.old.items) }
     ensures log_err { OnErr result (log.new.items ≡ log.old.items) }
 {
     let answer = after.copy(alloc)?;
-    let cell = after.copy(alloc)?;
-    let change = logged_change(alloc, call, name, Some(cell))?;
+    let change = logged_change(alloc, call, name, edit)?;
     log.reserve(1)?;
     places::put(alloc, cells, name, after)?;
     note(log, change);
     Ok(answer)
 }
 
-/// Takes out the cell under a name, and notes that in the log. Memory is taken first.
+/// Takes out the cell under a name, and notes the edit that does so in the log. Memory is taken first.
 fn erase(
     alloc: Global,
     cells: &mut Vec<Slot>,
     log: &mut Vec<Logged>,
     call: u64,
     name: &Name,
+    edit: &Edit,
 ) -> Result<(), OutOfMemory>
     requires { IsTrue (is_sorted name_cmp cells.old.items) }
     ensures cells { OnOk result (cells.new.items
         ≡ where_key name_cmp (λ other. not (eq_by_cmp name_cmp name.now other)) cells.old.items) }
-    ensures log { OnOk result (log.new.items ≡ log.old.items ++ logged call name.now (Some None)) }
+    ensures log { OnOk result (log.new.items ≡ log.old.items ++ logged call name.now edit.now (Some None)) }
     ensures cells_err { OnErr result (cells.new.items ≡ cells.old.items) }
     ensures log_err { OnErr result (log.new.items ≡ log.old.items) }
 {
-    let change = logged_change(alloc, call, name, None)?;
+    let change = logged_change(alloc, call, name, edit)?;
     log.reserve(1)?;
     note(log, change);
     places::take_out(cells, name);
     Ok(())
 }
 
-/// A change of a cell in a call.
-fn logged_change(
-    alloc: Global,
-    call: u64,
-    name: &Name,
-    cell: Option<Cell>,
-) -> Result<Logged, OutOfMemory>
-    ensures { IfOk result (λ change. change ≡ record { at = call; name = name.now; cell = cell }) }
+/// An edit of a cell in a call.
+fn logged_change(alloc: Global, call: u64, name: &Name, edit: &Edit) -> Result<Logged, OutOfMemory>
+    ensures { IfOk result (λ change. change ≡ record { at = call; name = name.now; edit = edit.now }) }
 {
     let name = name.copy(alloc)?;
+    let edit = edit.copy(alloc)?;
     Ok(Logged {
         at: call,
         name,
-        cell,
+        edit,
     })
 }
 

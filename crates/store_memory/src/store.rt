@@ -53,7 +53,7 @@ impl Store for MemoryStore {
             (λ done. Answered self.old (EditsCell name.now edit.now done.hit done.cell) self.new) }
         ensures failed { IsErrOf result StoreError.Failed ↔ IsTrue (fails_next self.old) }
         ensures told { IsCall self.old self.new
-            (logged (self.old.calls + 1) name.now (hit edit.now name.now (get (content_of self.old) name.now)))
+            (logged (self.old.calls + 1) name.now edit.now (hit edit.now name.now (get (content_of self.old) name.now)))
             result }
     {
         self.make(alloc, name, edit)

@@ -1,4 +1,7 @@
 use Rattle.std.proofs.Common.{◌+◌, Some, sym, ap, ◌∙◌}
+use Rattle.std.specs.FinMap.{get}
+use Rattle.store_trait.specs.Edits.{hit}
+use Rattle.store_memory.specs.Told.{Told, content_of}
 use Rattle.store_memory.proofs.Keeping.{told_of, in_order, kept_put, put_found}
 use Rattle.store_memory.proofs.memory.MemoryStore.put.Goals as goal
 
@@ -8,10 +11,12 @@ write-requires c = in_order c.self.inside.cells.items (told_of c.self.inside.log
 pub invariant_of-self-2 : goal.invariant_of-self-2
 invariant_of-self-2 c =
     let it = c.self.inside in
-    kept_put it.cells.items c.write.new.cells.items it.log.items c.write.new.log.items it.fails.items it.calls it.faults c.args.name.now c.args.after c.self.invariant c.requires.kind c.in_ok-cell.ensures.cells c.in_ok-cell.ensures.log
+    let hits = ap (λ (t : Told). hit c.args.edit.now c.args.name.now (get (content_of t) c.args.name.now)) c.self.view_is ∙ c.requires.hits in
+    kept_put it.cells.items c.write.new.cells.items it.log.items c.write.new.log.items it.fails.items it.calls it.faults c.args.name.now c.args.edit.now c.args.after c.self.invariant c.requires.kind hits c.in_ok-cell.ensures.cells c.in_ok-cell.ensures.log
 
 pub returns-clause-after : goal.returns-clause-after
 returns-clause-after c =
     let it = c.self.inside in
-    let kept = kept_put it.cells.items c.write.new.cells.items it.log.items c.write.new.log.items it.fails.items it.calls it.faults c.args.name.now c.args.after c.self.invariant c.requires.kind c.in_ok-cell.ensures.cells c.in_ok-cell.ensures.log in
+    let hits = ap (λ (t : Told). hit c.args.edit.now c.args.name.now (get (content_of t) c.args.name.now)) c.self.view_is ∙ c.requires.hits in
+    let kept = kept_put it.cells.items c.write.new.cells.items it.log.items c.write.new.log.items it.fails.items it.calls it.faults c.args.name.now c.args.edit.now c.args.after c.self.invariant c.requires.kind hits c.in_ok-cell.ensures.cells c.in_ok-cell.ensures.log in
     ap Some c.in_ok-cell.ensures.answer ∙ sym (put_found it.cells.items c.write.new.cells.items (told_of c.write.new.log.items it.fails.items (it.calls + 1) it.faults) c.args.name.now c.args.after kept c.in_ok-cell.ensures.cells)
