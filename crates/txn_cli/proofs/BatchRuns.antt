@@ -1,12 +1,17 @@
 -- The Run of a batch: from the listing of its base to the end of its calls.
-use Rattle.std.proofs.Common.{◌≡◌, ℕ, Bool, List, [], ◌∷◌, ◌++◌, Result, Ok, Err, IfOk, IsTrue, sym, ap, ◌∙◌, subst, arith, length}
+use Rattle.std.proofs.Common.{◌≡◌, ℕ, Bool, List, [], ◌∷◌, ◌++◌, Result, Ok, Err, IfOk, IfErr, IsTrue, true, inl, inr, refl, sym, ap, ◌∙◌, subst, arith, length}
 use Rattle.txn_key.specs.Documents.{Docs}
 use Rattle.store_trait.specs.Calls.{CallsGoOn}
 use Rattle.store_trait.specs.Contents.{Content}
 use Rattle.store_trait.specs.Meaning.{meaning}
 use Rattle.store_trait.specs.Soundness.{IsSound}
 use Rattle.txn_cli.specs.Batches.{MayRun, WorksOnBatch, IsDoneWith}
+use Rattle.txn_cli.specs.Leaving.{HasBegun, HasLeft, Stays}
 use Rattle.txn_cli.specs.Play.{RanBatch, HasRunBatch}
+use Rattle.txn_cli.specs.Refusals.{IsOfRun}
+use Rattle.txn_cli.specs.declared.fault.Fault.{Fault}
+use Rattle.txn_cli.specs.declared.fault.Fault.TheVariants as fault
+use Rattle.store_trait.specs.View.{record_at}
 use Rattle.txn_runner.specs.Numbers.{Uses}
 use Rattle.txn_runner.specs.Running.{HasRun, OnlyReads}
 use Rattle.txn_cli.specs.Runs.{RunsGoOn}
@@ -20,6 +25,30 @@ use Rattle.txn_cli.proofs.Runs.{runs_same, runs_add}
 pub if_ok : {T E : Type 0} (r : Result T E) (P Q : T → Type 0) → IfOk r P → ((x : T) → P x → Q x) → IfOk r Q
 if_ok (Ok x) P Q h f = f x h
 if_ok (Err e) P Q h f = tt
+
+-- a batch that is on its way, as a refusal leaves it
+begun_left : (old : Content) (waiting : List Waiting) (before : List Run) (new : Content) (place : ℕ → Content) (after : List Run) (f : Fault) → IsOfRun f → HasBegun old waiting before new place after → HasLeft true old waiting before new place after f
+begun_left old waiting before new place after fault.Store kind h = inr (refl, h)
+begun_left old waiting before new place after fault.OutOfMemory kind h = inr (refl, h)
+begun_left old waiting before new place after (fault.Spent e) kind h = inr (refl, h)
+begun_left old waiting before new place after (fault.Broken e) kind h = inr (refl, h)
+begun_left old waiting before new place after (fault.Repeated id) kind h = inr (refl, h)
+begun_left old waiting before new place after fault.Words kind h = elim kind [ ]
+begun_left old waiting before new place after (fault.Line number text) kind h = elim kind [ ]
+begun_left old waiting before new place after fault.Input kind h = elim kind [ ]
+begun_left old waiting before new place after fault.Output kind h = elim kind [ ]
+
+-- a refusal before it
+pub stays_left : (may_run : Bool) (old : Content) (waiting : List Waiting) (before : List Run) (new : Content) (place : ℕ → Content) (after : List Run) (f : Fault) → IsOfRun f → Stays old before new after → HasLeft may_run old waiting before new place after f
+stays_left may_run old waiting before new place after fault.Store kind h = inl h
+stays_left may_run old waiting before new place after fault.OutOfMemory kind h = inl h
+stays_left may_run old waiting before new place after (fault.Spent e) kind h = inl h
+stays_left may_run old waiting before new place after (fault.Broken e) kind h = inl h
+stays_left may_run old waiting before new place after (fault.Repeated id) kind h = inl h
+stays_left may_run old waiting before new place after fault.Words kind h = elim kind [ ]
+stays_left may_run old waiting before new place after (fault.Line number text) kind h = elim kind [ ]
+stays_left may_run old waiting before new place after fault.Input kind h = elim kind [ ]
+stays_left may_run old waiting before new place after fault.Output kind h = elim kind [ ]
 
 -- the store as the batch is run over it, as its base was listed, and as the batch was run
 module _ {S : Type 0} (tells : Bool) (content : S → Content) (place : S → ℕ → Content) (calls faults : S → ℕ) (old mid now : S) (waiting : List Waiting) (run : Run)
@@ -55,3 +84,14 @@ module _ {S : Type 0} (tells : Bool) (content : S → Content) (place : S → �
         (ran_batch content place calls mid now waiting run lines may_mid (present mid) (present now) mark base turns works uses done has still_there);
     kept = kept;
   }
+
+  pub batch_left : {T : Type 0} (result : Result T Fault) (before after : List Run) → after ≡ before ++ run ∷ [] → IfErr result IsOfRun → IfErr result (HasLeft true (content old) waiting before (content now) (place now) after)
+  batch_left (Ok x) before after kept kind = tt
+  batch_left (Err f) before after kept kind = begun_left (content old) waiting before (content now) (place now) after f kind (record {
+    run = run;
+    kept = kept;
+    opens = still_there ∙ reads.same;
+    base = base ∙ ap meaning reads.same;
+    only = works.decided refl;
+    others = λ id none. works.others.records id none ∙ ap (λ (c : Content). record_at c id) reads.same;
+  })

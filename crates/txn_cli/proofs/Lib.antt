@@ -10,3 +10,6 @@ pub mod Readings
 pub mod BatchRuns
 pub mod Spending
 pub mod Caused
+pub mod Coming
+pub mod Completing
+pub mod LineSteps

@@ -18,12 +18,15 @@ use Rattle.txn_script.specs.Statements.{line_in}
 use Rattle.txn_script.specs.declared.fault.ScriptFault.{ScriptFault}
 use Rattle.txn_script.specs.declared.statement.Statement.{Statement}
 use Rattle.txn_script.specs.declared.statement.Statement.TheVariants as statement
-use Rattle.txn_cli.specs.Play.{Progress, opening, placed_doc, RunsBatch, RunsWaiting, Performs, PlaysAs, Plays}
+use Rattle.txn_cli.specs.Play.{Progress, opening, placed_doc, has_no_cell, RunsBatch, Performs, PlaysAs, Plays}
 use Rattle.txn_runner.specs.Numbers.{Uses, Suffices, size_of, number_at}
 use Rattle.txn_runner.specs.declared.error.StepError.TheVariants as step
 use Rattle.txn_cli.specs.Refusals.{HasReason, IsUnspent}
 use Rattle.txn_cli.specs.declared.fault.Fault.{Fault}
 use Rattle.txn_cli.specs.declared.fault.Fault.TheVariants as fault
+use Rattle.txn_cli.specs.Doing.{RunsFirst}
+use Rattle.txn_cli.proofs.Opening.{none_is_empty}
+use Rattle.txn_cli.proofs.Playing.{first_as}
 
 pub of_store_unspent : (f : Fault) → (f ≡ fault.Store) ⊎ (f ≡ fault.OutOfMemory) → IsUnspent f
 of_store_unspent f is = ⊎_elim (λ store. subst IsUnspent (sym store) tt) (λ memory. subst IsUnspent (sym memory) tt) is
@@ -86,10 +89,6 @@ ran p q n b r =
     subst (λ (w : List Waiting). Bounds (record q { waiting = w }) n) (sym r.none_waits)
     (record { nonces = omega (arith, b.nonces, u.counter); numbers = λ key. omega (arith, b.numbers key, u.numbers key) })
 
-ran_waiting : (waiting : List Waiting) (p q : Progress) (n : ℕ) → Bounds p n → RunsWaiting waiting p q → Bounds q n
-ran_waiting [] p q n b same = subst (λ (x : Progress). Bounds x n) (sym same) b
-ran_waiting (txn ∷ waiting) p q n b runs = ran p q n b runs
-
 does : (s : Statement) (p q : Progress) (n : ℕ) → Bounds p n → Performs s p q → Bounds q (n + 1)
 does (statement.Doc key body) p q n b is = subst (λ (x : Progress). Bounds x (n + 1)) (sym is) (record {
   nonces = omega (arith, b.nonces, counter_placed p.content key body);
@@ -100,9 +99,7 @@ does (statement.Submit id ops info) p q n b is = subst (λ (x : Progress). Bound
   numbers = λ key. omega (arith, b.numbers key, length-append p.waiting (record { id = id; ops = ops } ∷ []));
 })
 does statement.Go p q n b runs = bounds_more q n (ran p q n b runs)
-does statement.Show p q n b shown =
-    let r = ran_waiting p.waiting p shown.0 n b shown.1 in
-    subst (λ (x : Progress). Bounds x (n + 1)) (sym shown.2) (record { nonces = omega (arith, r.nonces); numbers = λ key. omega (arith, r.numbers key) })
+does statement.Show p q n b shown = subst (λ (x : Progress). Bounds x (n + 1)) (sym shown.1) (record { nonces = omega (arith, b.nonces); numbers = λ key. omega (arith, b.numbers key) })
 
 plays_as : (r : Result (Option Statement) ScriptFault) (p q : Progress) (n : ℕ) → Bounds p n → PlaysAs r p q → Bounds q (n + 1)
 plays_as (Ok None) p q n b same = subst (λ (x : Progress). Bounds x (n + 1)) (sym same) (bounds_more p n b)
@@ -122,9 +119,19 @@ begins c none = subst (λ (x : Content). Bounds (opening x) 0) (sym none) (recor
 
 bounded : (script : List ℕ) (c : Content) → c ≡ empty → (n : ℕ) (p : Progress) → Plays script (opening c) n p → Bounds p n
 bounded script c none _ _ Plays.Opens = begins c none
-bounded script c none _ _ (Plays.Then m line p q plays first did) = plays_as (line_in line) p q m (bounded script c none m p plays) did
+bounded script c none _ _ (Plays.Line m line p q plays first did) = plays_as (line_in line) p q m (bounded script c none m p plays) did
+bounded script c none _ _ (Plays.Batch m p q plays lets batch) = ran p q m (bounded script c none m p plays) batch.runs
 
-pub suffices_at : (script : List ℕ) (c : Content) → c ≡ empty → (n : ℕ) (p : Progress) → Plays script (opening c) n p → n ≤ 268435456 → Suffices p.content (length p.waiting)
+pub suffices_at : (script : List ℕ) (c : Content) → has_no_cell c ≡ true → (n : ℕ) (p : Progress) → Plays script (opening c) n p → n ≤ 268435456 → Suffices p.content (length p.waiting)
 suffices_at script c none n p plays short =
-    let b = bounded script c none n p plays in
+    let b = bounded script c (none_is_empty c none) n p plays in
     record { nonces = omega (arith, b.nonces, short); numbers = λ key. omega (arith, b.numbers key, short) }
+
+-- what is left for a batch is left once it was run first, or none was
+pub suffices_first : (b : Bool) (p q : Progress) → RunsFirst b p q → Suffices p.content (length p.waiting) → Suffices q.content (length q.waiting)
+suffices_first b p q ran s = ⊎_elim
+    (λ same. subst (λ (x : Progress). Suffices x.content (length x.waiting)) (sym same) s)
+    (λ batch.
+    let u = batch.1.runs.ran.ran.uses in
+    subst (λ (w : List Waiting). Suffices q.content (length w)) (sym batch.1.runs.none_waits) (record { nonces = omega (arith, s.nonces, u.counter); numbers = λ key. omega (arith, s.numbers key, u.numbers key) }))
+    (first_as b p q ran)

@@ -8,3 +8,5 @@ pub mod Reading
 pub mod Batches
 pub mod Runs
 pub mod Sessions
+pub mod Leaving
+pub mod Doing

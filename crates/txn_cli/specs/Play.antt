@@ -1,10 +1,10 @@
-use Rattle.std.specs.Prelude.{◌≡◌, ◌≤◌, ℕ, zero, suc, ◌+◌, ◌&&◌, Bool, true, false, not, nat_lt, pos, List, [], ◌∷◌, ◌++◌, length, Option, Some, None, is_none, Result, Ok, Err, codes}
+use Rattle.std.specs.Prelude.{◌≡◌, ◌≢◌, ◌≤◌, ℕ, zero, suc, ◌+◌, ◌&&◌, Bool, true, false, not, nat_lt, pos, List, [], ◌∷◌, ◌++◌, length, Option, Some, None, is_none, Result, Ok, Err, codes}
 use Rattle.std.specs.FinMap.{insert}
 use Rattle.std.specs.List.{list_all}
 use Rattle.doc_value.specs.declared.value.Value.{Value}
 use Rattle.txn_key.specs.declared.id.TxnId.{TxnId}
 use Rattle.txn_record.specs.Orders.{after, legal}
-use Rattle.store_trait.specs.Contents.{Content}
+use Rattle.store_trait.specs.Contents.{Content, first_past}
 use Rattle.store_trait.specs.Meaning.{meaning}
 use Rattle.store_trait.specs.Soundness.{IsSound}
 use Rattle.store_trait.specs.View.{record_at}
@@ -12,10 +12,9 @@ use Rattle.store_trait.specs.declared.cell.Cell.{Cell}
 use Rattle.store_trait.specs.declared.cell.Cell.TheVariants as cell
 use Rattle.store_trait.specs.declared.name.Name.TheVariants as name
 use Rattle.std.specs.Str.{bytes_eq}
-use Rattle.txn_io.specs.Lines.{first_line, after_line, line_cost, reading}
+use Rattle.txn_io.specs.Lines.{after_line, line_cost, reading}
+use Rattle.txn_io.specs.declared.lines.LineFault.{LineFault}
 use Rattle.txn_io.specs.declared.lines.LineFault.TheVariants as line_fault
-use Rattle.txn_cli.specs.declared.fault.Fault.{Fault}
-use Rattle.txn_cli.specs.declared.fault.Fault.TheVariants as fault
 use Rattle.txn_script.specs.Statements.{line_in}
 use Rattle.txn_cli.specs.Batches.{waits, Every, StandsIn, batch_text}
 use Rattle.txn_runner.specs.Store.{has_document, has_record}
@@ -31,17 +30,23 @@ use Rattle.txn_runner.specs.Numbers.{Uses}
 use Rattle.txn_runner.specs.declared.waiting.Waiting.{Waiting}
 
 -- How far a script has come: what the store holds, the transactions that wait, whether a statement
--- other than `doc` stood already, the Runs, and what was printed.
+-- other than `doc` stood already, whether the store had no cell as the call began, the Runs, and what was
+-- printed.
 pub record Progress : Type 0 where
   pub content : Content
   pub waiting : List Waiting
   pub begun : Bool
+  pub was_empty : Bool
   pub runs : List Run
   pub printed : List ℕ
 
+-- whether a store that holds this has no cell
+abbrev pub has_no_cell : Content → Bool
+has_no_cell content = is_none (first_past None content)
+
 -- as a call begins
 abbrev pub opening : Content → Progress
-opening content = record { content = content; waiting = []; begun = false; runs = []; printed = [] }
+opening content = record { content = content; waiting = []; begun = false; was_empty = has_no_cell content; runs = []; printed = [] }
 
 -- a document as a `doc` line places it
 abbrev pub placed_doc : Value → Cell
@@ -53,12 +58,13 @@ most_waiting = 10000
 
 -- Which statements are built. A `doc` line stands before every other statement and names a key that
 -- has no document. A transaction has no info and one operation, which only asks or updates, on a document
--- that is there; its id has no record and doesn't wait, and fewer than 10,000 wait.
+-- that is there; its id has no record and doesn't wait, and fewer than 10,000 wait. A batch is run, and
+-- documents are shown, over a store that had no cell as the call began.
 abbrev pub is_allowed : Progress → Statement → Bool
 is_allowed p (statement.Doc key body) = not p.begun && not (has_document p.content key)
 is_allowed p (statement.Submit id ops info) = nat_lt (length p.waiting) most_waiting && not (waits p.waiting id) && is_none info && is_built ops && not (has_record p.content id) && list_all (λ op. has_document p.content op.key) ops
-is_allowed p statement.Go = true
-is_allowed p statement.Show = true
+is_allowed p statement.Go = p.was_empty
+is_allowed p statement.Show = p.was_empty
 
 -- A batch was run over the one content, and left the other. The Run's base is what the store meant, and
 -- the order is legal and leads to what the store means now. Each transaction of the batch is applied or
@@ -90,18 +96,14 @@ pub record RunsBatch (p q : Progress) : Type 0 where
   pub printed : q.printed ≡ p.printed ++ lines
   pub none_waits : q.waiting ≡ []
   pub begun : q.begun ≡ true
+  pub was_empty : q.was_empty ≡ p.was_empty
 
--- a waiting batch runs by itself, where one waits
-abbrev pub RunsWaiting : List Waiting → Progress → Progress → Type 0
-RunsWaiting [] p q = q ≡ p
-RunsWaiting (_ ∷ _) p q = RunsBatch p q
-
--- what a statement does
+-- What a statement does. Documents are shown where nothing waits: a batch that does has run before.
 abbrev pub Performs : Statement → Progress → Progress → Type 0
 Performs (statement.Doc key body) p q = q ≡ record p { content = insert p.content (name.Doc key) (placed_doc body) }
 Performs (statement.Submit id ops info) p q = q ≡ record p { waiting = p.waiting ++ record { id = id; ops = ops } ∷ []; begun = true }
 Performs statement.Go p q = RunsBatch p q
-Performs statement.Show p q = (r : Progress) × RunsWaiting p.waiting p r × (q ≡ record r { begun = true; printed = r.printed ++ documents_text (meaning r.content) })
+Performs statement.Show p q = (p.waiting ≡ []) × (q ≡ record p { begun = true; printed = p.printed ++ documents_text (meaning p.content) })
 
 -- a statement that is built was done
 pub record Does (s : Statement) (p q : Progress) : Type 0 where
@@ -117,6 +119,70 @@ PlaysAs (Err _) p q = ⊥
 abbrev pub PlaysLine : List ℕ → Progress → Progress → Type 0
 PlaysLine line p q = PlaysAs (line_in line) p q
 
+-- the bytes of a script behind its first n lines
+abbrev pub after_lines : ℕ → List ℕ → List ℕ
+after_lines zero script = script
+after_lines (suc n) script = after_line (after_lines n script)
+
+-- how many bytes the first n lines of a script take, their newlines among them
+abbrev pub taken_by : ℕ → List ℕ → ℕ
+taken_by zero script = 0
+taken_by (suc n) script = taken_by n script + line_cost (after_lines n script)
+
+-- what stands behind the first n lines: a line, the end, or one that passes a limit
+abbrev pub next_of : ℕ → List ℕ → Result (Option (List ℕ)) LineFault
+next_of n script = reading (taken_by n script) (after_lines n script)
+
+-- whether a statement first lets a batch run that waits
+abbrev pub lets_run : Statement → Bool
+lets_run (statement.Doc key body) = false
+lets_run (statement.Submit id ops info) = false
+lets_run statement.Go = false
+lets_run statement.Show = true
+
+abbrev pub line_lets_run : Result (Option Statement) ScriptFault → Bool
+line_lets_run (Ok None) = false
+line_lets_run (Ok (Some s)) = lets_run s
+line_lets_run (Err _) = false
+
+-- whether what comes next does so; the end of the script does
+abbrev pub next_lets_run : Result (Option (List ℕ)) LineFault → Bool
+next_lets_run (Ok None) = true
+next_lets_run (Ok (Some line)) = line_lets_run (line_in line)
+next_lets_run (Err _) = false
+
+-- a batch that waited was run by itself
+pub record RunsItself (p q : Progress) : Type 0 where
+  pub allowed : p.was_empty ≡ true
+  pub waits : p.waiting ≢ []
+  pub runs : RunsBatch p q
+
+-- The first n lines of a script were done over a store that held this, one after the other, each batch that
+-- runs by itself before what lets it.
+pub data Plays (script : List ℕ) (opening : Progress) : ℕ → Progress → Type 0 where
+  Opens : Plays script opening 0 opening
+  Line : (n : ℕ) (line : List ℕ) (p q : Progress) → Plays script opening n p → next_of n script ≡ Ok (Some line) → PlaysLine line p q → Plays script opening (n + 1) q
+  Batch : (n : ℕ) (p q : Progress) → Plays script opening n p → next_lets_run (next_of n script) ≡ true → RunsItself p q → Plays script opening n q
+
+-- what comes next was done: a batch ran by itself, or the next line was done
+pub data DoesNext (script : List ℕ) (n : ℕ) (p q : Progress) : Type 0 where
+  Batch : next_lets_run (next_of n script) ≡ true → RunsItself p q → DoesNext script n p q
+  Line : (line : List ℕ) → next_of n script ≡ Ok (Some line) → PlaysLine line p q → DoesNext script n p q
+
+-- After each line that was done, and each batch that ran by itself, what the store held stands at a place
+-- of the trail. These places never fall, from that of the opening content on.
+abbrev pub StandOnTrail : {script : List ℕ} {opening : Progress} {n : ℕ} {p : Progress} → (ℕ → Content) → ℕ → ℕ → Plays script opening n p → Type 0
+StandOnTrail place from to Plays.Opens = from ≤ to
+StandOnTrail place from to (Plays.Line n line p q plays next did) = (at : ℕ) × StandOnTrail place from at plays × (at ≤ to) × (place at ≡ q.content)
+StandOnTrail place from to (Plays.Batch n p q plays lets ran) = (at : ℕ) × StandOnTrail place from at plays × (at ≤ to) × (place at ≡ q.content)
+
+-- every line of a script was done, and nothing waits any more
+pub record IsPlayed (script : List ℕ) (opening end : Progress) : Type 0 where
+  pub count : ℕ
+  pub plays : Plays script opening count end
+  pub ended : after_lines count script ≡ []
+  pub none_waits : end.waiting ≡ []
+
 -- a line is refused by that text: by the one of its fault, or as a statement that isn't built
 abbrev pub RefusedAs : Result (Option Statement) ScriptFault → Progress → List ℕ → Type 0
 RefusedAs (Ok None) p text = ⊥
@@ -126,64 +192,18 @@ RefusedAs (Err why) p text = text ≡ script_text why
 abbrev pub IsRefused : List ℕ → Progress → List ℕ → Type 0
 IsRefused line p text = RefusedAs (line_in line) p text
 
--- a refusal of a line has that line's number and its text
-abbrev pub IsRefusedAt : List ℕ → Progress → ℕ → Fault → Type 0
-IsRefusedAt line p number (fault.Line at text) = (at ≡ number) × IsRefused line p text
-IsRefusedAt line p number _ = Unit {0}
-
--- the bytes of a script behind its first n lines
-abbrev pub after_lines : ℕ → List ℕ → List ℕ
-after_lines zero script = script
-after_lines (suc n) script = after_line (after_lines n script)
-
--- the first n lines of a script were done over a store that held this, one after the other
-pub data Plays (script : List ℕ) (opening : Progress) : ℕ → Progress → Type 0 where
-  Opens : Plays script opening 0 opening
-  Then : (n : ℕ) (line : List ℕ) (p q : Progress) → Plays script opening n p → first_line (after_lines n script) ≡ Some line → PlaysLine line p q → Plays script opening (n + 1) q
-
--- the next line of a script was done, or, where there is none, the batch that waits at its end
-abbrev pub DoesAs : Option (List ℕ) → Progress → Progress → Type 0
-DoesAs (Some line) p q = PlaysLine line p q
-DoesAs None p q = RunsWaiting p.waiting p q
-
-abbrev pub DoesNext : List ℕ → ℕ → Progress → Progress → Type 0
-DoesNext script n p q = DoesAs (first_line (after_lines n script)) p q
-
--- After each line that was done, what the store held stands at a place of the trail. These places never
--- fall, from that of the opening content on.
-abbrev pub StandOnTrail : {script : List ℕ} {opening : Progress} {n : ℕ} {p : Progress} → (ℕ → Content) → ℕ → ℕ → Plays script opening n p → Type 0
-StandOnTrail place from to Plays.Opens = from ≤ to
-StandOnTrail place from to (Plays.Then n line p q plays first did) = (at : ℕ) × StandOnTrail place from at plays × (at ≤ to) × (place at ≡ q.content)
-
--- how many bytes the first n lines of a script take, their newlines among them
-abbrev pub taken_by : ℕ → List ℕ → ℕ
-taken_by zero script = 0
-taken_by (suc n) script = taken_by n script + line_cost (after_lines n script)
-
--- a script was done up to its nth line, and this is left of it
-pub record IsAt (script : List ℕ) (opening : Progress) (n bytes : ℕ) (left : List ℕ) (p : Progress) : Type 0 where
-  pub plays : Plays script opening n p
-  pub rest : after_lines n script ≡ left
-  pub taken : taken_by n script ≡ bytes
-
--- every line of a script was done, and the batch that waited at its end was run
-pub record IsPlayed (script : List ℕ) (opening end : Progress) : Type 0 where
-  pub count : ℕ
-  pub last : Progress
-  pub plays : Plays script opening count last
-  pub ended : after_lines count script ≡ []
-  pub runs : RunsWaiting last.waiting last end
-
--- The line that a script is refused at: the first that isn't done. It is refused by its length, by
--- that of the script up to it, or for what it states.
-pub data Refuses (script : List ℕ) (opening : Progress) : Fault → Type 0 where
-  Stated : (n : ℕ) (p : Progress) (line text : List ℕ) → Plays script opening n p → first_line (after_lines n script) ≡ Some line → IsRefused line p text → Refuses script opening (fault.Line (n + 1) text)
-  TooLong : (n : ℕ) (p : Progress) → Plays script opening n p → reading (taken_by n script) (after_lines n script) ≡ Err line_fault.TooLong → Refuses script opening (fault.Line (n + 1) (codes "too long"))
-  ScriptTooLong : (n : ℕ) (p : Progress) → Plays script opening n p → reading (taken_by n script) (after_lines n script) ≡ Err line_fault.ScriptTooLong → Refuses script opening (fault.Line (n + 1) (codes "script too long"))
+-- What comes next is refused by that text: a line for what it states, by its length, or by that of the
+-- script up to it; or the end, where a batch waits that may not run.
+abbrev pub Refuses : Result (Option (List ℕ)) LineFault → Progress → List ℕ → Type 0
+Refuses (Ok (Some line)) p text = IsRefused line p text
+Refuses (Ok None) p text = (p.was_empty ≡ false) × (p.waiting ≢ []) × (text ≡ script_text NotBuilt)
+Refuses (Err line_fault.TooLong) p text = text ≡ codes "too long"
+Refuses (Err line_fault.ScriptTooLong) p text = text ≡ codes "script too long"
+Refuses (Err _) p text = ⊥
 
 -- no line of a script is refused
 abbrev pub IsValid : List ℕ → Progress → Type 0
-IsValid script opening = (why : Fault) → Refuses script opening why → ⊥
+IsValid script opening = (n : ℕ) (p : Progress) (text : List ℕ) → Plays script opening n p → Refuses (next_of n script) p text → ⊥
 
 -- the words of the program: the one word `run`
 abbrev pub is_grammar : List (List ℕ) → Bool

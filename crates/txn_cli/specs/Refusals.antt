@@ -1,4 +1,4 @@
-use Rattle.std.specs.Prelude.{ℕ, ◌≤◌}
+use Rattle.std.specs.Prelude.{◌≡◌, ℕ, Bool, false, ◌≤◌}
 use Rattle.txn_script.specs.Faults.{fault_text as script_text}
 use Rattle.txn_script.specs.declared.fault.ScriptFault.TheVariants as script_fault
 use Rattle.txn_cli.specs.declared.fault.Fault.{Fault}
@@ -79,3 +79,10 @@ HasCause answered calls old new (fault.Broken (step.Clash id at)) = LastShows an
 HasCause answered calls old new (fault.Broken _) = ⊥
 HasCause answered calls old new (fault.Repeated id) = LastShows answered calls old new (ShowsRepeated id)
 HasCause answered calls old new _ = Unit {0}
+
+-- Whether a refusal has its cause in the call: the words, the counts of faults, what the store holds.
+abbrev pub IsCaused : Bool → Type 0 → Type 0 → Content → Fault → Type 0
+IsCaused in_grammar store_rose input_rose c fault.Words = in_grammar ≡ false
+IsCaused in_grammar store_rose input_rose c fault.Store = store_rose
+IsCaused in_grammar store_rose input_rose c fault.Input = input_rose
+IsCaused in_grammar store_rose input_rose c why = HasReason c why

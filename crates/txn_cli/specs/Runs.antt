@@ -1,5 +1,5 @@
 -- The Runs of a call, one after another.
-use Rattle.std.specs.Prelude.{◌≡◌, ◌+◌, ◌⊎◌, true, ℕ, List, [], ◌∷◌, ◌++◌}
+use Rattle.std.specs.Prelude.{◌≡◌, ◌+◌, true, ℕ, List, [], ◌∷◌}
 use Rattle.txn_record.specs.Orders.{after, legal}
 use Rattle.store_trait.specs.Contents.{Content}
 use Rattle.store_trait.specs.History.{IsFaithful}
@@ -20,10 +20,6 @@ LeadsOn run (next ∷ runs) = next.base ≡ after run.base run.order
 abbrev pub EachRun : (Run → ℕ → Type 0) → List Run → ℕ → Type 0
 EachRun P [] last = Unit {0}
 EachRun P (run ∷ runs) last = P run (end_of runs last) × LeadsOn run runs × EachRun P runs last
-
--- at most one Run more
-abbrev pub GrowsByOne : List Run → List Run → Type 0
-GrowsByOne old new = (new ≡ old) ⊎ ((run : Run) × (new ≡ old ++ run ∷ []))
 
 -- From its mark to its end the trail is faithful to the Run: every place is sound and means the base
 -- after the decisions so far, one whole transaction after another; and the order is legal: each applied

@@ -8,7 +8,7 @@ use Rattle.txn_cli.specs.declared.session.Session.{Session}
 
 -- how far the script has come, with what was printed
 abbrev pub at : {S : Type 0} → (S → Content) → Session S → List ℕ → Progress
-at content session printed = record { content = content session.store; waiting = session.batch; begun = session.begun; runs = session.runs.items; printed = printed }
+at content session printed = record { content = content session.store; waiting = session.batch; begun = session.begun; was_empty = session.was_empty; runs = session.runs.items; printed = printed }
 
 -- The batch may run, and each Run goes on up to the last call. Documents are placed before anything
 -- waits and before any Run.
@@ -16,3 +16,9 @@ pub record IsHeld {S : Type 0} (content : S → Content) (place : S → ℕ → 
   pub may_run : MayRun (content session.store) session.batch
   pub runs : RunsGoOn (place session.store) session.runs.items (calls session.store)
   pub unbegun : session.begun ≡ false → (session.batch ≡ []) × (session.runs.items ≡ [])
+
+-- a session as a call begins: nothing stood, nothing waits, and there is no Run
+pub record IsNew {S : Type 0} (session : Session S) : Type 0 where
+  pub batch : session.batch ≡ []
+  pub begun : session.begun ≡ false
+  pub runs : session.runs.items ≡ []

@@ -1,18 +1,19 @@
 //! The top call.
 
 ghost use Rattle.std.specs.Prelude.{◌≡◌, [], ◌≢◌, ◌≤◌, ◌⊎◌, Err, true, false, IsTrue, OnOk, OnErr, IfOk, IfErr, IfSome, IfNone, IsErrOf, map, string_bytes, length, ◌++◌, if◌then◌else◌};
-ghost use Rattle.std.specs.FinMap.{empty};
 ghost use Rattle.std.specs.List.{list_any};
 ghost use Rattle.store_trait.specs.Calls.{CallsGoOn, Rose};
 ghost use Rattle.store_trait.specs.Contents.{Content};
+ghost use Rattle.txn_cli.specs.Doing.{HasDone, HasDoneLine, HasStoppedLine, RunsBefore, RunsFirst, RunsWaiting, StopsAs};
 ghost use Rattle.txn_cli.specs.Faulting.{status_of, fault_of_line};
+ghost use Rattle.txn_cli.specs.Leaving.{runs_batch};
 ghost use Rattle.txn_cli.specs.Outcomes.{has_aborted, is_aborted};
-ghost use Rattle.txn_cli.specs.Play.{opening, Refuses, IsRefusedAt, IsValid, is_grammar};
-ghost use Rattle.txn_cli.specs.Reading.{HasDoneLine, HasCutLine, HasRunRest, HasCutRest, HasPlayed, HasStopped, HasRefused};
+ghost use Rattle.txn_cli.specs.Play.{opening, has_no_cell, is_allowed, is_grammar, lets_run, Does, IsValid, RunsItself};
+ghost use Rattle.txn_cli.specs.Reading.{HasPlayed, HasStopped, HasRefused};
 ghost use Rattle.txn_io.specs.Pour.{IsPartPut};
-ghost use Rattle.txn_cli.specs.Refusals.{HasCause, HasReason, IsOfLine, IsOfStatement, IsOfReading, IsUnspent};
-ghost use Rattle.txn_cli.specs.Runs.{AreFaithful, GrowsByOne, RunsGoOn};
-ghost use Rattle.txn_cli.specs.Sessions.{IsHeld, at};
+ghost use Rattle.txn_cli.specs.Refusals.{HasCause, HasReason, IsCaused, IsOfLine, IsOfStatement, IsOfReading, IsUnspent, not_built};
+ghost use Rattle.txn_cli.specs.Runs.{AreFaithful, RunsGoOn};
+ghost use Rattle.txn_cli.specs.Sessions.{IsHeld, IsNew, at};
 ghost use Rattle.txn_cli.specs.Texts.{fault_text};
 ghost use Rattle.txn_runner.specs.Numbers.{Suffices};
 
@@ -25,7 +26,7 @@ use std::alloc::Global;
 use store_trait::{Store, StoreError};
 use txn_io::{LineFault, Lines, Sink, Source, pour};
 use txn_record::{Entry, Outcome};
-use txn_script::{ScriptFault, read_line};
+use txn_script::{ScriptFault, Statement, read_line};
 
 /// Plays the script of the input, where the words are the single word `run`.
 ///
@@ -42,36 +43,37 @@ pub fn command<S: Store, I: Source, O: Sink>(
     ensures ended { IfNone result.fault (result.status ≡ (if list_any has_aborted result.runs.items then 1 else 0)) }
 
     // Status 2 comes exactly where the words aren't in the grammar, unless the usage text can't be
-    // made or written.
+    // made or written. Then nothing is read and no call is made on the store.
     ensures words { IsTrue (is_grammar (map string_bytes words.now)) → result.fault ≢ Some Fault.Words }
     ensures usage { is_grammar (map string_bytes words.now) ≡ false →
         (result.status ≡ 2) ⊎ (result.status ≡ 7) ⊎ (result.status ≡ 8) }
+    ensures untouched { is_grammar (map string_bytes words.now) ≡ false →
+        (result.store ≡ store) × (input.new ≡ input.old) × (result.runs.items ≡ []) }
 
-    // Over a source and a store that tell, the store empty as the call begins: 0 and 1 say that each
-    // line was read and done, and what all print was written; 3 that the line it names is the first that
-    // is refused; and any refusal that the lines before it were done.
-    ensures played { IsTrue I.tells → IsTrue S.tells → S.content store ≡ empty → IfNone result.fault
+    // Over a source and a store that tell: 0 and 1 say that each line was read and done, and what all
+    // print was written. Any refusal says which first lines were done, and what it leaves behind them; 3
+    // that the line it names is the next, and the first that is refused.
+    ensures played { IsTrue I.tells → IsTrue S.tells → IfNone result.fault
         (HasPlayed (I.rest input.old) (opening (S.content store))
         (S.content result.store) (S.place result.store) (S.calls store) (S.calls result.store) result.runs.items O.tells (O.written output.old) (O.written output.new)) }
-    ensures line { IsTrue I.tells → IsTrue S.tells → S.content store ≡ empty → IfSome result.fault
-        (λ fault. IsOfLine fault → Refuses (I.rest input.old) (opening (S.content store)) fault) }
-    ensures refused { IsTrue I.tells → IsTrue S.tells → S.content store ≡ empty → IfSome result.fault
-        (λ fault. HasRefused (I.rest input.old) (opening (S.content store))
-        (S.place result.store) (S.calls store) (S.calls result.store) fault result.runs.items O.tells (O.written output.old) (O.written output.new)) }
+    ensures refused { IsTrue I.tells → IsTrue S.tells → IfSome result.fault
+        (λ fault. HasRefused (IsCaused (is_grammar (map string_bytes words.now)) (Rose (S.faults store) (S.faults result.store))
+        (Rose (I.faults input.old) (I.faults input.new)) (S.content result.store)) (I.rest input.old) (opening (S.content store))
+        (S.content result.store) (S.place result.store) (S.calls store) (S.calls result.store) fault result.runs.items O.tells (O.written output.old) (O.written output.new)) }
+    ensures read { IsTrue I.tells → IfNone result.fault (I.rest input.new ≡ []) }
 
     // However the call ended, each Run is faithful up to the mark of the next, or to the last call: at
     // every place of the trail the store is sound and means the Run's base after the decisions so far.
-    ensures runs { IsTrue S.tells → S.content store ≡ empty →
-        AreFaithful (S.place result.store) result.runs.items (S.calls result.store) }
+    ensures runs { IsTrue S.tells → AreFaithful (S.place result.store) result.runs.items (S.calls result.store) }
 
     // 9 comes only where nonces or revision numbers are used up, and 11 never over a store that tells.
     // Over any store both come only where a call on it in this call was answered so.
-    ensures reason { IsTrue S.tells → S.content store ≡ empty → IfSome result.fault (HasReason (S.content result.store)) }
+    ensures reason { IsTrue S.tells → IfSome result.fault (HasReason (S.content result.store)) }
     ensures cause { IfSome result.fault (HasCause S.answered S.calls store result.store) }
 
     // Where the words are in the grammar, no line is refused and nothing failed, every line is done, unless
     // memory is wanting: a script has fewer lines than there are nonces, or numbers for a document.
-    ensures complete { IsTrue I.tells → IsTrue S.tells → S.content store ≡ empty →
+    ensures complete { IsTrue I.tells → IsTrue S.tells →
         IsTrue (is_grammar (map string_bytes words.now)) →
         IsValid (I.rest input.old) (opening (S.content store)) →
         (Rose (S.faults store) (S.faults result.store) → ⊥) → (Rose (I.faults input.old) (I.faults input.new) → ⊥) →
@@ -126,22 +128,21 @@ fn run<S: Store, I: Source, O: Sink>(
     input: &mut I,
     output: &mut O,
 ) -> Result<(), Fault>
-    requires begins { at S.content session.old [] ≡ opening (S.content session.old.store) }
+    requires begins { IsNew session.old }
     ensures words { IsTrue (is_grammar (map string_bytes words.now)) → IfErr result (λ fault. fault ≢ Fault.Words) }
     ensures usage { is_grammar (map string_bytes words.now) ≡ false → result ≡ Err Fault.Words }
-    ensures played { IsTrue I.tells → IsTrue S.tells → S.content session.old.store ≡ empty → OnOk result
+    ensures untouched { is_grammar (map string_bytes words.now) ≡ false → (session.new ≡ session.old) × (input.new ≡ input.old) }
+    ensures played { IsTrue I.tells → IsTrue S.tells → OnOk result
         (HasPlayed (I.rest input.old) (opening (S.content session.old.store))
         (S.content session.new.store) (S.place session.new.store) (S.calls session.old.store) (S.calls session.new.store)
         session.new.runs.items O.tells (O.written output.old) (O.written output.new)) }
-    ensures line { IsTrue I.tells → IsTrue S.tells → S.content session.old.store ≡ empty → IfErr result
-        (λ fault. IsOfLine fault → Refuses (I.rest input.old) (opening (S.content session.old.store)) fault) }
-    ensures stopped { IsTrue I.tells → IsTrue S.tells → S.content session.old.store ≡ empty → IfErr result
-        (λ fault. HasStopped (I.rest input.old) (opening (S.content session.old.store))
+    ensures stopped { IsTrue I.tells → IsTrue S.tells → IfErr result
+        (λ fault. HasStopped (I.rest input.old) (opening (S.content session.old.store)) (S.content session.new.store)
         (S.place session.new.store) (S.calls session.old.store) (S.calls session.new.store)
         fault session.new.runs.items O.tells (O.written output.old) (O.written output.new)) }
-    ensures runs { IsTrue S.tells → S.content session.old.store ≡ empty →
-        RunsGoOn (S.place session.new.store) session.new.runs.items (S.calls session.new.store) }
-    ensures reason { IsTrue S.tells → S.content session.old.store ≡ empty → IfErr result (HasReason (S.content session.new.store)) }
+    ensures read { IsTrue I.tells → OnOk result (I.rest input.new ≡ []) }
+    ensures runs { IsTrue S.tells → RunsGoOn (S.place session.new.store) session.new.runs.items (S.calls session.new.store) }
+    ensures reason { IsTrue S.tells → IfErr result (HasReason (S.content session.new.store)) }
     ensures cause { IfErr result (HasCause S.answered S.calls session.old.store session.new.store) }
     ensures store { IsErrOf result Fault.Store → Rose (S.faults session.old.store) (S.faults session.new.store) }
     ensures input { IsErrOf result Fault.Input → Rose (I.faults input.old) (I.faults input.new) }
@@ -204,22 +205,20 @@ fn play<S: Store, I: Source, O: Sink>(
     input: &mut I,
     output: &mut O,
 ) -> Result<(), Fault>
-    requires begins { at S.content session.old [] ≡ opening (S.content session.old.store) }
-    ensures played { IsTrue I.tells → IsTrue S.tells → S.content session.old.store ≡ empty → OnOk result
+    requires begins { IsNew session.old }
+    ensures words { IfErr result (λ fault. fault ≢ Fault.Words) }
+    ensures played { IsTrue I.tells → IsTrue S.tells → OnOk result
         (HasPlayed (I.rest input.old) (opening (S.content session.old.store))
         (S.content session.new.store) (S.place session.new.store) (S.calls session.old.store) (S.calls session.new.store)
         session.new.runs.items O.tells (O.written output.old) (O.written output.new)) }
-    ensures line { IsTrue I.tells → IsTrue S.tells → S.content session.old.store ≡ empty → IfErr result
-        (λ fault. IsOfLine fault → Refuses (I.rest input.old) (opening (S.content session.old.store)) fault) }
-    ensures stopped { IsTrue I.tells → IsTrue S.tells → S.content session.old.store ≡ empty → IfErr result
-        (λ fault. HasStopped (I.rest input.old) (opening (S.content session.old.store))
+    ensures stopped { IsTrue I.tells → IsTrue S.tells → IfErr result
+        (λ fault. HasStopped (I.rest input.old) (opening (S.content session.old.store)) (S.content session.new.store)
         (S.place session.new.store) (S.calls session.old.store) (S.calls session.new.store)
         fault session.new.runs.items O.tells (O.written output.old) (O.written output.new)) }
-    ensures runs { IsTrue S.tells → S.content session.old.store ≡ empty →
-        RunsGoOn (S.place session.new.store) session.new.runs.items (S.calls session.new.store) }
-    ensures reason { IsTrue S.tells → S.content session.old.store ≡ empty → IfErr result (HasReason (S.content session.new.store)) }
+    ensures read { IsTrue I.tells → OnOk result (I.rest input.new ≡ []) }
+    ensures runs { IsTrue S.tells → RunsGoOn (S.place session.new.store) session.new.runs.items (S.calls session.new.store) }
+    ensures reason { IsTrue S.tells → IfErr result (HasReason (S.content session.new.store)) }
     ensures cause { IfErr result (HasCause S.answered S.calls session.old.store session.new.store) }
-    ensures words { IfErr result (λ fault. fault ≢ Fault.Words) }
     ensures store { IsErrOf result Fault.Store → Rose (S.faults session.old.store) (S.faults session.new.store) }
     ensures input { IsErrOf result Fault.Input → Rose (I.faults input.old) (I.faults input.new) }
     ensures output { IsErrOf result Fault.Output → Rose (O.faults output.old) (O.faults output.new) }
@@ -232,7 +231,7 @@ fn play<S: Store, I: Source, O: Sink>(
         let number = done + 1;
         match lines.next(alloc, input) {
             Ok(Some(line)) => play_line(alloc, session, output, number, line.as_slice())?,
-            Ok(None) => return finish(alloc, session, output, number),
+            Ok(None) => return run_waiting(alloc, session, output, number),
             Err(fault) => return Err(line_fault(alloc, number, fault)),
         }
     }
@@ -241,8 +240,7 @@ fn play<S: Store, I: Source, O: Sink>(
 
 /// Whether the store has no cell.
 fn is_empty<S: Store>(alloc: Global, store: &mut S) -> Result<bool, Fault>
-    ensures empty { IsTrue S.tells → S.content store.old ≡ empty → IfOk result (λ answer. answer ≡ true) }
-    ensures only { IsTrue S.tells → IfOk result (λ answer. answer ≡ true → S.content store.old ≡ empty) }
+    ensures answer { IsTrue S.tells → IfOk result (λ answer. answer ≡ has_no_cell (S.content store.old)) }
     ensures same { IsTrue S.tells → S.content store.new ≡ S.content store.old }
     ensures calls { CallsGoOn S.tells S.content S.place S.calls S.faults store.old store.new }
     ensures fault { IsErrOf result Fault.Store → Rose (S.faults store.old) (S.faults store.new) }
@@ -256,7 +254,8 @@ fn is_empty<S: Store>(alloc: Global, store: &mut S) -> Result<bool, Fault>
     }
 }
 
-/// Does what a line states, and writes what that prints.
+/// Does what a line states, and writes what that prints. A batch that waits is run first, as a statement
+/// of its own, where the line lets it.
 fn play_line<S: Store, O: Sink>(
     alloc: Global,
     session: &mut Session<S>,
@@ -265,21 +264,18 @@ fn play_line<S: Store, O: Sink>(
     line: &[u8],
 ) -> Result<(), Fault>
     requires held { IsTrue S.tells → IsTrue session.old.was_empty → IsHeld S.content S.place S.calls session.old }
-    ensures done { IsTrue S.tells → IsTrue session.old.was_empty → OnOk result
-        (HasDoneLine S.content line.now session.old session.new O.tells (O.written output.old) (O.written output.new)) }
-    ensures cut { IsTrue S.tells → IsTrue session.old.was_empty → IfErr result (λ fault. fault ≡ Fault.Output →
-        HasCutLine S.content line.now session.old session.new O.tells (O.written output.old) (O.written output.new)) }
+    ensures done { IsTrue S.tells → OnOk result
+        (HasDoneLine S.content S.place S.calls line.now session.old session.new O.tells (O.written output.old) (O.written output.new)) }
+    ensures stopped { IsTrue S.tells → IfErr result
+        (HasStoppedLine S.content S.place S.calls line.now number session.old session.new O.tells (O.written output.old) (O.written output.new)) }
     ensures held { IsTrue S.tells → IsTrue session.old.was_empty → OnOk result (IsHeld S.content S.place S.calls session.new) }
     ensures runs { IsTrue S.tells → IsTrue session.old.was_empty →
         RunsGoOn (S.place session.new.store) session.new.runs.items (S.calls session.new.store) }
-    ensures grown { GrowsByOne session.old.runs.items session.new.runs.items }
-    ensures reason { IsTrue S.tells → IsTrue session.old.was_empty → IfErr result (HasReason (S.content session.new.store)) }
+    ensures none_run { session.old.was_empty ≡ false → session.new.runs.items ≡ session.old.runs.items }
+    ensures reason { IsTrue S.tells → IfErr result (HasReason (S.content session.new.store)) }
     ensures cause { IfErr result (HasCause S.answered S.calls session.old.store session.new.store) }
-    ensures enough { IsTrue S.tells → IsTrue session.old.was_empty →
-        Suffices (S.content session.old.store) (length session.old.batch) → IfErr result IsUnspent }
-    ensures unwritten { IsTrue O.tells → IfErr result (λ fault. fault ≢ Fault.Output → O.written output.new ≡ O.written output.old) }
-    ensures refused { IsTrue S.tells → IsTrue session.old.was_empty →
-        IfErr result (IsRefusedAt line.now (at S.content session.old []) number) }
+    ensures enough { IsTrue S.tells → (IsTrue session.old.was_empty → Suffices (S.content session.old.store) (length session.old.batch)) →
+        IfErr result IsUnspent }
     ensures kind { IfErr result IsOfStatement }
     ensures kept { session.new.was_empty ≡ session.old.was_empty }
     ensures store { IsErrOf result Fault.Store → Rose (S.faults session.old.store) (S.faults session.new.store) }
@@ -290,42 +286,128 @@ fn play_line<S: Store, O: Sink>(
     match read_line(alloc, line) {
         Ok(None) => Ok(()),
         Ok(Some(statement)) => {
-            let printed = session.perform(alloc, number, statement)?;
-            write(output, printed.as_slice())
+            run_first(alloc, session, output, number, &statement)?;
+            play_statement(alloc, session, output, number, statement)
         }
         Err(ScriptFault::OutOfMemory) => Err(Fault::OutOfMemory),
         Err(fault) => Err(misread(alloc, number, &fault)),
     }
 }
 
-/// Runs the batch that waits at the end of the input, and writes what that prints.
-fn finish<S: Store, O: Sink>(
+/// Runs a batch that waits, where the statement lets it run first.
+fn run_first<S: Store, O: Sink>(
+    alloc: Global,
+    session: &mut Session<S>,
+    output: &mut O,
+    number: u64,
+    statement: &Statement,
+) -> Result<(), Fault>
+    requires held { IsTrue S.tells → IsTrue session.old.was_empty → IsHeld S.content S.place S.calls session.old }
+    ensures done { IsTrue S.tells → OnOk result
+        (HasDone S.content (RunsFirst (lets_run statement.now)) session.old session.new O.tells (O.written output.old) (O.written output.new)) }
+    ensures stopped { IsTrue S.tells → IfErr result
+        (StopsAs S.content S.place (lets_run statement.now) (RunsBefore (lets_run statement.now)) session.old session.new O.tells (O.written output.old) (O.written output.new)) }
+    ensures cleared { lets_run statement.now ≡ true → OnOk result (session.new.batch ≡ []) }
+    ensures refused { IfErr result (λ fault. IsOfLine fault →
+        (lets_run statement.now ≡ true) × (session.old.was_empty ≡ false) × (fault ≡ not_built number)) }
+    ensures held { IsTrue S.tells → IsTrue session.old.was_empty → OnOk result (IsHeld S.content S.place S.calls session.new) }
+    ensures runs { IsTrue S.tells → IsTrue session.old.was_empty →
+        RunsGoOn (S.place session.new.store) session.new.runs.items (S.calls session.new.store) }
+    ensures none_run { session.old.was_empty ≡ false → session.new.runs.items ≡ session.old.runs.items }
+    ensures reason { IsTrue S.tells → IfErr result (HasReason (S.content session.new.store)) }
+    ensures cause { IfErr result (HasCause S.answered S.calls session.old.store session.new.store) }
+    ensures enough { IsTrue S.tells → (IsTrue session.old.was_empty → Suffices (S.content session.old.store) (length session.old.batch)) →
+        IfErr result IsUnspent }
+    ensures kind { IfErr result IsOfStatement }
+    ensures kept { session.new.was_empty ≡ session.old.was_empty }
+    ensures store { IsErrOf result Fault.Store → Rose (S.faults session.old.store) (S.faults session.new.store) }
+    ensures output { IsErrOf result Fault.Output → Rose (O.faults output.old) (O.faults output.new) }
+    ensures calls { CallsGoOn S.tells S.content S.place S.calls S.faults session.old.store session.new.store }
+    ensures later { O.faults output.old ≤ O.faults output.new }
+{
+    if lets_run(statement) {
+        run_waiting(alloc, session, output, number)
+    } else {
+        Ok(())
+    }
+}
+
+/// Whether a statement first lets a batch run that waits.
+fn lets_run(statement: &Statement) -> bool
+    ensures { result ≡ lets_run statement.now }
+{
+    matches!(statement, Statement::Show)
+}
+
+/// Runs the batch, where one waits, and writes the outcomes.
+fn run_waiting<S: Store, O: Sink>(
     alloc: Global,
     session: &mut Session<S>,
     output: &mut O,
     number: u64,
 ) -> Result<(), Fault>
     requires held { IsTrue S.tells → IsTrue session.old.was_empty → IsHeld S.content S.place S.calls session.old }
-    ensures done { IsTrue S.tells → IsTrue session.old.was_empty → OnOk result
-        (HasRunRest S.content session.old session.new O.tells (O.written output.old) (O.written output.new)) }
-    ensures cut { IsTrue S.tells → IsTrue session.old.was_empty → IfErr result (λ fault. fault ≡ Fault.Output →
-        HasCutRest S.content session.old session.new O.tells (O.written output.old) (O.written output.new)) }
+    ensures done { IsTrue S.tells → OnOk result
+        (HasDone S.content (RunsWaiting session.old.batch) session.old session.new O.tells (O.written output.old) (O.written output.new)) }
+    ensures stopped { IsTrue S.tells → IfErr result
+        (StopsAs S.content S.place true RunsItself session.old session.new O.tells (O.written output.old) (O.written output.new)) }
+    ensures cleared { OnOk result (session.new.batch ≡ []) }
+    ensures refused { IfErr result (λ fault. IsOfLine fault →
+        (session.old.was_empty ≡ false) × (session.old.batch ≢ []) × (fault ≡ not_built number)) }
+    ensures held { IsTrue S.tells → IsTrue session.old.was_empty → OnOk result (IsHeld S.content S.place S.calls session.new) }
     ensures runs { IsTrue S.tells → IsTrue session.old.was_empty →
         RunsGoOn (S.place session.new.store) session.new.runs.items (S.calls session.new.store) }
-    ensures grown { GrowsByOne session.old.runs.items session.new.runs.items }
-    ensures reason { IsTrue S.tells → IsTrue session.old.was_empty → IfErr result (HasReason (S.content session.new.store)) }
+    ensures none_run { session.old.was_empty ≡ false → session.new.runs.items ≡ session.old.runs.items }
+    ensures reason { IsTrue S.tells → IfErr result (HasReason (S.content session.new.store)) }
     ensures cause { IfErr result (HasCause S.answered S.calls session.old.store session.new.store) }
-    ensures enough { IsTrue S.tells → IsTrue session.old.was_empty →
-        Suffices (S.content session.old.store) (length session.old.batch) → IfErr result IsUnspent }
-    ensures unwritten { IsTrue O.tells → IfErr result (λ fault. fault ≢ Fault.Output → O.written output.new ≡ O.written output.old) }
-    ensures never { IsTrue session.old.was_empty → IfErr result (λ fault. IsOfLine fault → ⊥) }
+    ensures enough { IsTrue S.tells → (IsTrue session.old.was_empty → Suffices (S.content session.old.store) (length session.old.batch)) →
+        IfErr result IsUnspent }
     ensures kind { IfErr result IsOfStatement }
+    ensures kept { session.new.was_empty ≡ session.old.was_empty }
     ensures store { IsErrOf result Fault.Store → Rose (S.faults session.old.store) (S.faults session.new.store) }
     ensures output { IsErrOf result Fault.Output → Rose (O.faults output.old) (O.faults output.new) }
     ensures calls { CallsGoOn S.tells S.content S.place S.calls S.faults session.old.store session.new.store }
     ensures later { O.faults output.old ≤ O.faults output.new }
 {
-    let printed = session.finish(alloc, number)?;
+    if session.batch.is_empty() {
+        return Ok(());
+    }
+    let printed = session.go(alloc, number)?;
+    write(output, printed.as_slice())
+}
+
+/// Does a statement, and writes what it prints.
+fn play_statement<S: Store, O: Sink>(
+    alloc: Global,
+    session: &mut Session<S>,
+    output: &mut O,
+    number: u64,
+    statement: Statement,
+) -> Result<(), Fault>
+    requires held { IsTrue S.tells → IsTrue session.old.was_empty → IsHeld S.content S.place S.calls session.old }
+    requires cleared { lets_run statement ≡ true → IsTrue session.old.was_empty → session.old.batch ≡ [] }
+    ensures done { IsTrue S.tells → OnOk result
+        (HasDone S.content (Does statement) session.old session.new O.tells (O.written output.old) (O.written output.new)) }
+    ensures stopped { IsTrue S.tells → IfErr result
+        (StopsAs S.content S.place (runs_batch statement) (Does statement) session.old session.new O.tells (O.written output.old) (O.written output.new)) }
+    ensures refused { IsTrue S.tells → IfErr result (λ fault. IsOfLine fault →
+        (is_allowed (at S.content session.old []) statement ≡ false) × (fault ≡ not_built number)) }
+    ensures held { IsTrue S.tells → IsTrue session.old.was_empty → OnOk result (IsHeld S.content S.place S.calls session.new) }
+    ensures runs { IsTrue S.tells → IsTrue session.old.was_empty →
+        RunsGoOn (S.place session.new.store) session.new.runs.items (S.calls session.new.store) }
+    ensures none_run { session.old.was_empty ≡ false → session.new.runs.items ≡ session.old.runs.items }
+    ensures reason { IsTrue S.tells → IfErr result (HasReason (S.content session.new.store)) }
+    ensures cause { IfErr result (HasCause S.answered S.calls session.old.store session.new.store) }
+    ensures enough { IsTrue S.tells → (IsTrue session.old.was_empty → Suffices (S.content session.old.store) (length session.old.batch)) →
+        IfErr result IsUnspent }
+    ensures kind { IfErr result IsOfStatement }
+    ensures kept { session.new.was_empty ≡ session.old.was_empty }
+    ensures store { IsErrOf result Fault.Store → Rose (S.faults session.old.store) (S.faults session.new.store) }
+    ensures output { IsErrOf result Fault.Output → Rose (O.faults output.old) (O.faults output.new) }
+    ensures calls { CallsGoOn S.tells S.content S.place S.calls S.faults session.old.store session.new.store }
+    ensures later { O.faults output.old ≤ O.faults output.new }
+{
+    let printed = session.perform(alloc, number, statement)?;
     write(output, printed.as_slice())
 }
 

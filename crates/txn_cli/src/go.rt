@@ -7,7 +7,8 @@ ghost use Rattle.txn_cli.specs.Batches.{MayRun, IsBegun, IsDoneWith, WorksOnBatc
 ghost use Rattle.txn_runner.specs.Numbers.{Suffices, Uses};
 ghost use Rattle.txn_cli.specs.Play.{HasRunBatch};
 ghost use Rattle.txn_cli.specs.Refusals.{IsOfRun, IsUnspent, HasCause, HasReason};
-ghost use Rattle.txn_cli.specs.Runs.{GrowsByOne, RunsGoOn};
+ghost use Rattle.txn_cli.specs.Leaving.{HasLeft};
+ghost use Rattle.txn_cli.specs.Runs.{RunsGoOn};
 ghost use Rattle.txn_record.specs.declared.entry.Entry.{Entry as LogEntry};
 
 use crate::done::Run;
@@ -34,7 +35,8 @@ pub fn run_batch<S: Store>(
     ensures done { IsTrue S.tells → IfOk result
         (λ lines. HasRunBatch (S.content store.old) (S.content store.new) batch.now runs.old.items runs.new.items lines.items) }
     ensures calm { IsTrue S.tells → OnOk result (IsCalm (S.content store.new)) }
-    ensures grown { GrowsByOne runs.old.items runs.new.items }
+    ensures left { IsTrue S.tells → IfErr result (HasLeft true (S.content store.old) batch.now runs.old.items
+        (S.content store.new) (S.place store.new) runs.new.items) }
     ensures reason { IsTrue S.tells → IfErr result (HasReason (S.content store.new)) }
     ensures enough { IsTrue S.tells → Suffices (S.content store.old) (length batch.now) → IfErr result IsUnspent }
     ensures cause { IfErr result (HasCause S.answered S.calls store.old store.new) }

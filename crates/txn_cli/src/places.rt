@@ -1,6 +1,6 @@
 //! What `doc` and `txn` lines ask of the store.
 
-ghost use Rattle.std.specs.Prelude.{◌≡◌, true, ◌&&◌, not, IsTrue, IfOk, IsErrOf, OnErr, Err, is_some, ◌⊎◌};
+ghost use Rattle.std.specs.Prelude.{◌≡◌, true, false, ◌&&◌, not, IsTrue, IfOk, IsErrOf, OnErr, Err, is_some, ◌⊎◌};
 ghost use Rattle.std.specs.Bool.{OnTrue};
 ghost use Rattle.std.specs.FinMap.{get, insert};
 ghost use Rattle.std.specs.List.{list_all};
@@ -31,6 +31,8 @@ pub fn place_document<S: Store>(
     ensures absent { IsTrue S.tells → IfOk result (λ placed. placed ≡ not (has_document (S.content store.old) key)) }
     ensures made { IsTrue S.tells → IfOk result
         (λ placed. OnTrue placed (S.content store.new ≡ insert (S.content store.old) (Doc key) (placed_doc body))) }
+    ensures missed { IsTrue S.tells → IfOk result (λ placed. placed ≡ false → S.content store.new ≡ S.content store.old) }
+    ensures left { IsTrue S.tells → OnErr result (S.content store.new ≡ S.content store.old) }
     ensures calm { IsTrue S.tells → IsCalm (S.content store.old) → IsCalm (S.content store.new) }
     ensures calls { CallsGoOn S.tells S.content S.place S.calls S.faults store.old store.new }
     ensures fault { IsErrOf result Fault.Store → Rose (S.faults store.old) (S.faults store.new) }

@@ -1,14 +1,17 @@
 //! A script as it is played: what each statement does to the store, and what it prints.
 
-ghost use Rattle.std.specs.Prelude.{◌≡◌, ◌≢◌, ◌++◌, [], ℕ, List, length, false, IsTrue, IfOk, OnOk, IfErr, IsErrOf};
+ghost use Rattle.std.specs.Prelude.{◌≡◌, ◌≢◌, ◌++◌, [], ℕ, Bool, List, length, true, false, IsTrue, IfOk, OnOk, IfErr, IsErrOf};
 ghost use Rattle.store_trait.specs.Calls.{CallsGoOn, Rose};
 ghost use Rattle.store_trait.specs.Contents.{Content};
-ghost use Rattle.txn_cli.specs.Play.{is_allowed, Does, RunsBatch, RunsWaiting};
-ghost use Rattle.txn_cli.specs.Refusals.{HasCause, HasReason, IsOfLine, IsOfRun, IsOfWork, IsUnspent, not_built};
-ghost use Rattle.txn_cli.specs.Runs.{GrowsByOne, RunsGoOn};
+ghost use Rattle.txn_cli.specs.Leaving.{HasLeft, runs_batch};
+ghost use Rattle.txn_cli.specs.Play.{is_allowed, lets_run, Does, RunsBatch};
+ghost use Rattle.txn_cli.specs.Refusals.{HasCause, HasReason, IsOfLine, IsOfWork, IsUnspent, not_built};
+ghost use Rattle.txn_cli.specs.Runs.{RunsGoOn};
 ghost use Rattle.txn_cli.specs.Sessions.{IsHeld, at};
 ghost use Rattle.txn_runner.specs.Numbers.{Suffices};
 ghost use Rattle.txn_script.specs.declared.statement.Statement.TheVariants as statement;
+ghost use Rattle.txn_cli.specs.declared.done.Run.{Run as RunValue};
+ghost use Rattle.txn_runner.specs.declared.waiting.Waiting.{Waiting as WaitingValue};
 
 use crate::batch::Batch;
 use crate::documents::push_documents;
@@ -24,7 +27,8 @@ use txn_record::Ops;
 use txn_runner::is_built;
 use txn_script::{ScriptFault, Statement};
 
-/// How far a script has come. `was_empty` says whether the store had no cell as the call began.
+/// How far a script has come. `was_empty` says whether the store had no cell as the call began: batches
+/// are run, and documents shown, over such a store alone.
 pub struct Session<S> {
     pub store: S,
     pub runs: Vec<Run>,
@@ -35,7 +39,7 @@ pub struct Session<S> {
 }
 
 impl<S: Store> Session<S> {
-    /// Does a statement, and answers what it prints.
+    /// Does a statement, and answers what it prints. A batch that the statement lets run has run before.
     pub fn perform(
         &mut self,
         alloc: Global,
@@ -43,19 +47,21 @@ impl<S: Store> Session<S> {
         statement: Statement,
     ) -> Result<Vec<u8>, Fault>
         requires held { IsTrue S.tells → IsTrue self.old.was_empty → IsHeld S.content S.place S.calls self.old }
-        ensures done { IsTrue S.tells → IsTrue self.old.was_empty → IfOk result (λ lines.
-            (printed : List ℕ) → Does statement (at S.content self.old printed) (at S.content self.new (printed ++ lines.items))) }
+        requires cleared { lets_run statement ≡ true → IsTrue self.old.was_empty → self.old.batch ≡ [] }
+        ensures done { IsTrue S.tells → IfOk result (λ lines. (printed : List ℕ) →
+            Does statement (at S.content self.old printed) (at S.content self.new (printed ++ lines.items))) }
         ensures held { IsTrue S.tells → IsTrue self.old.was_empty → OnOk result (IsHeld S.content S.place S.calls self.new) }
         ensures runs { IsTrue S.tells → IsTrue self.old.was_empty →
             RunsGoOn (S.place self.new.store) self.new.runs.items (S.calls self.new.store) }
-        ensures grown { GrowsByOne self.old.runs.items self.new.runs.items }
-        ensures reason { IsTrue S.tells → IsTrue self.old.was_empty → IfErr result (HasReason (S.content self.new.store)) }
+        ensures none_run { self.old.was_empty ≡ false → self.new.runs.items ≡ self.old.runs.items }
+        ensures left { IsTrue S.tells → IfErr result (HasLeft (runs_batch statement) (S.content self.old.store) self.old.batch self.old.runs.items
+            (S.content self.new.store) (S.place self.new.store) self.new.runs.items) }
+        ensures reason { IsTrue S.tells → IfErr result (HasReason (S.content self.new.store)) }
         ensures cause { IfErr result (HasCause S.answered S.calls self.old.store self.new.store) }
-        ensures enough { IsTrue S.tells → IsTrue self.old.was_empty →
-            Suffices (S.content self.old.store) (length self.old.batch) → IfErr result IsUnspent }
-        ensures refused { IsTrue S.tells → IsTrue self.old.was_empty → IfErr result (λ fault. IsOfLine fault →
-            is_allowed (at S.content self.old []) statement ≡ false) }
-        ensures text { IfErr result (λ fault. IsOfLine fault → fault ≡ not_built line) }
+        ensures enough { IsTrue S.tells → (IsTrue self.old.was_empty → Suffices (S.content self.old.store) (length self.old.batch)) →
+            IfErr result IsUnspent }
+        ensures refused { IsTrue S.tells → IfErr result (λ fault. IsOfLine fault →
+            (is_allowed (at S.content self.old []) statement ≡ false) × (fault ≡ not_built line)) }
         ensures kind { IfErr result IsOfWork }
         ensures kept { self.new.was_empty ≡ self.old.was_empty }
         ensures calls { CallsGoOn S.tells S.content S.place S.calls S.faults self.old.store self.new.store }
@@ -69,33 +75,6 @@ impl<S: Store> Session<S> {
         }
     }
 
-    /// Runs the batch, where one waits, as the end of the input does.
-    pub fn finish(&mut self, alloc: Global, line: u64) -> Result<Vec<u8>, Fault>
-        requires held { IsTrue S.tells → IsTrue self.old.was_empty → IsHeld S.content S.place S.calls self.old }
-        ensures done { IsTrue S.tells → IsTrue self.old.was_empty → IfOk result (λ lines. (printed : List ℕ) →
-            RunsWaiting self.old.batch (at S.content self.old printed) (at S.content self.new (printed ++ lines.items))) }
-        ensures held { IsTrue S.tells → IsTrue self.old.was_empty → OnOk result (IsHeld S.content S.place S.calls self.new) }
-        ensures runs { IsTrue S.tells → IsTrue self.old.was_empty →
-            RunsGoOn (S.place self.new.store) self.new.runs.items (S.calls self.new.store) }
-        ensures grown { GrowsByOne self.old.runs.items self.new.runs.items }
-        ensures reason { IsTrue S.tells → IsTrue self.old.was_empty → IfErr result (HasReason (S.content self.new.store)) }
-        ensures cause { IfErr result (HasCause S.answered S.calls self.old.store self.new.store) }
-        ensures enough { IsTrue S.tells → IsTrue self.old.was_empty →
-            Suffices (S.content self.old.store) (length self.old.batch) → IfErr result IsUnspent }
-        ensures never { IsTrue self.old.was_empty → IfErr result IsOfRun }
-        ensures text { IfErr result (λ fault. IsOfLine fault → fault ≡ not_built line) }
-        ensures kind { IfErr result IsOfWork }
-        ensures kept { self.new.was_empty ≡ self.old.was_empty }
-        ensures calls { CallsGoOn S.tells S.content S.place S.calls S.faults self.old.store self.new.store }
-        ensures fault { IsErrOf result Fault.Store → Rose (S.faults self.old.store) (S.faults self.new.store) }
-    {
-        if self.batch.is_empty() {
-            Ok(Vec::new(alloc))
-        } else {
-            self.go(alloc, line)
-        }
-    }
-
     fn place(&mut self, alloc: Global, line: u64, key: Key, body: Value) -> Result<Vec<u8>, Fault>
         requires held { IsTrue S.tells → IsTrue self.old.was_empty → IsHeld S.content S.place S.calls self.old }
         ensures done { IsTrue S.tells → IfOk result (λ lines. (printed : List ℕ) →
@@ -103,14 +82,15 @@ impl<S: Store> Session<S> {
         ensures held { IsTrue S.tells → IsTrue self.old.was_empty → OnOk result (IsHeld S.content S.place S.calls self.new) }
         ensures runs { IsTrue S.tells → IsTrue self.old.was_empty →
             RunsGoOn (S.place self.new.store) self.new.runs.items (S.calls self.new.store) }
-        ensures grown { GrowsByOne self.old.runs.items self.new.runs.items }
-        ensures reason { IsTrue S.tells → IsTrue self.old.was_empty → IfErr result (HasReason (S.content self.new.store)) }
+        ensures none_run { self.old.was_empty ≡ false → self.new.runs.items ≡ self.old.runs.items }
+        ensures left { IsTrue S.tells → IfErr result (HasLeft false (S.content self.old.store) self.old.batch self.old.runs.items
+            (S.content self.new.store) (S.place self.new.store) self.new.runs.items) }
+        ensures reason { IsTrue S.tells → IfErr result (HasReason (S.content self.new.store)) }
         ensures cause { IfErr result (HasCause S.answered S.calls self.old.store self.new.store) }
-        ensures enough { IsTrue S.tells → IsTrue self.old.was_empty →
-            Suffices (S.content self.old.store) (length self.old.batch) → IfErr result IsUnspent }
+        ensures enough { IsTrue S.tells → (IsTrue self.old.was_empty → Suffices (S.content self.old.store) (length self.old.batch)) →
+            IfErr result IsUnspent }
         ensures refused { IsTrue S.tells → IfErr result (λ fault. IsOfLine fault →
-            is_allowed (at S.content self.old []) (statement.Doc key body) ≡ false) }
-        ensures text { IfErr result (λ fault. IsOfLine fault → fault ≡ not_built line) }
+            (is_allowed (at S.content self.old []) (statement.Doc key body) ≡ false) × (fault ≡ not_built line)) }
         ensures kind { IfErr result IsOfWork }
         ensures kept { self.new.was_empty ≡ self.old.was_empty }
         ensures calls { CallsGoOn S.tells S.content S.place S.calls S.faults self.old.store self.new.store }
@@ -140,14 +120,15 @@ impl<S: Store> Session<S> {
         ensures held { IsTrue S.tells → IsTrue self.old.was_empty → OnOk result (IsHeld S.content S.place S.calls self.new) }
         ensures runs { IsTrue S.tells → IsTrue self.old.was_empty →
             RunsGoOn (S.place self.new.store) self.new.runs.items (S.calls self.new.store) }
-        ensures grown { GrowsByOne self.old.runs.items self.new.runs.items }
-        ensures reason { IsTrue S.tells → IsTrue self.old.was_empty → IfErr result (HasReason (S.content self.new.store)) }
+        ensures none_run { self.old.was_empty ≡ false → self.new.runs.items ≡ self.old.runs.items }
+        ensures left { IsTrue S.tells → IfErr result (HasLeft false (S.content self.old.store) self.old.batch self.old.runs.items
+            (S.content self.new.store) (S.place self.new.store) self.new.runs.items) }
+        ensures reason { IsTrue S.tells → IfErr result (HasReason (S.content self.new.store)) }
         ensures cause { IfErr result (HasCause S.answered S.calls self.old.store self.new.store) }
-        ensures enough { IsTrue S.tells → IsTrue self.old.was_empty →
-            Suffices (S.content self.old.store) (length self.old.batch) → IfErr result IsUnspent }
+        ensures enough { IsTrue S.tells → (IsTrue self.old.was_empty → Suffices (S.content self.old.store) (length self.old.batch)) →
+            IfErr result IsUnspent }
         ensures refused { IsTrue S.tells → IfErr result (λ fault. IsOfLine fault →
-            is_allowed (at S.content self.old []) (statement.Submit id ops info) ≡ false) }
-        ensures text { IfErr result (λ fault. IsOfLine fault → fault ≡ not_built line) }
+            (is_allowed (at S.content self.old []) (statement.Submit id ops info) ≡ false) × (fault ≡ not_built line)) }
         ensures kind { IfErr result IsOfWork }
         ensures kept { self.new.was_empty ≡ self.old.was_empty }
         ensures calls { CallsGoOn S.tells S.content S.place S.calls S.faults self.old.store self.new.store }
@@ -173,20 +154,24 @@ impl<S: Store> Session<S> {
         Ok(Vec::new(alloc))
     }
 
-    fn go(&mut self, alloc: Global, line: u64) -> Result<Vec<u8>, Fault>
+    /// Runs the batch, and answers the lines of the outcomes.
+    pub fn go(&mut self, alloc: Global, line: u64) -> Result<Vec<u8>, Fault>
         requires held { IsTrue S.tells → IsTrue self.old.was_empty → IsHeld S.content S.place S.calls self.old }
-        ensures done { IsTrue S.tells → IsTrue self.old.was_empty → IfOk result (λ lines. (printed : List ℕ) →
+        ensures done { IsTrue S.tells → IfOk result (λ lines. (printed : List ℕ) →
             RunsBatch (at S.content self.old printed) (at S.content self.new (printed ++ lines.items))) }
+        ensures allowed { OnOk result (self.old.was_empty ≡ true) }
+        ensures cleared { OnOk result (self.new.batch ≡ []) }
         ensures held { IsTrue S.tells → IsTrue self.old.was_empty → OnOk result (IsHeld S.content S.place S.calls self.new) }
         ensures runs { IsTrue S.tells → IsTrue self.old.was_empty →
             RunsGoOn (S.place self.new.store) self.new.runs.items (S.calls self.new.store) }
-        ensures grown { GrowsByOne self.old.runs.items self.new.runs.items }
-        ensures reason { IsTrue S.tells → IsTrue self.old.was_empty → IfErr result (HasReason (S.content self.new.store)) }
+        ensures none_run { self.old.was_empty ≡ false → self.new.runs.items ≡ self.old.runs.items }
+        ensures left { IsTrue S.tells → IfErr result (HasLeft true (S.content self.old.store) self.old.batch self.old.runs.items
+            (S.content self.new.store) (S.place self.new.store) self.new.runs.items) }
+        ensures reason { IsTrue S.tells → IfErr result (HasReason (S.content self.new.store)) }
         ensures cause { IfErr result (HasCause S.answered S.calls self.old.store self.new.store) }
-        ensures enough { IsTrue S.tells → IsTrue self.old.was_empty →
-            Suffices (S.content self.old.store) (length self.old.batch) → IfErr result IsUnspent }
-        ensures never { IsTrue self.old.was_empty → IfErr result IsOfRun }
-        ensures text { IfErr result (λ fault. IsOfLine fault → fault ≡ not_built line) }
+        ensures enough { IsTrue S.tells → (IsTrue self.old.was_empty → Suffices (S.content self.old.store) (length self.old.batch)) →
+            IfErr result IsUnspent }
+        ensures refused { IfErr result (λ fault. IsOfLine fault → (self.old.was_empty ≡ false) × (fault ≡ not_built line)) }
         ensures kind { IfErr result IsOfWork }
         ensures kept { self.new.was_empty ≡ self.old.was_empty }
         ensures calls { CallsGoOn S.tells S.content S.place S.calls S.faults self.old.store self.new.store }
@@ -208,18 +193,21 @@ impl<S: Store> Session<S> {
 
     fn show(&mut self, alloc: Global, line: u64) -> Result<Vec<u8>, Fault>
         requires held { IsTrue S.tells → IsTrue self.old.was_empty → IsHeld S.content S.place S.calls self.old }
-        ensures done { IsTrue S.tells → IsTrue self.old.was_empty → IfOk result (λ lines. (printed : List ℕ) →
+        requires cleared { IsTrue self.old.was_empty → self.old.batch ≡ [] }
+        ensures done { IsTrue S.tells → IfOk result (λ lines. (printed : List ℕ) →
             Does statement.Show (at S.content self.old printed) (at S.content self.new (printed ++ lines.items))) }
         ensures held { IsTrue S.tells → IsTrue self.old.was_empty → OnOk result (IsHeld S.content S.place S.calls self.new) }
         ensures runs { IsTrue S.tells → IsTrue self.old.was_empty →
             RunsGoOn (S.place self.new.store) self.new.runs.items (S.calls self.new.store) }
-        ensures grown { GrowsByOne self.old.runs.items self.new.runs.items }
-        ensures reason { IsTrue S.tells → IsTrue self.old.was_empty → IfErr result (HasReason (S.content self.new.store)) }
+        ensures none_run { self.old.was_empty ≡ false → self.new.runs.items ≡ self.old.runs.items }
+        ensures left { IsTrue S.tells → IfErr result (HasLeft false (S.content self.old.store) self.old.batch self.old.runs.items
+            (S.content self.new.store) (S.place self.new.store) self.new.runs.items) }
+        ensures reason { IsTrue S.tells → IfErr result (HasReason (S.content self.new.store)) }
         ensures cause { IfErr result (HasCause S.answered S.calls self.old.store self.new.store) }
-        ensures enough { IsTrue S.tells → IsTrue self.old.was_empty →
-            Suffices (S.content self.old.store) (length self.old.batch) → IfErr result IsUnspent }
-        ensures never { IsTrue self.old.was_empty → IfErr result IsOfRun }
-        ensures text { IfErr result (λ fault. IsOfLine fault → fault ≡ not_built line) }
+        ensures enough { IsTrue S.tells → (IsTrue self.old.was_empty → Suffices (S.content self.old.store) (length self.old.batch)) →
+            IfErr result IsUnspent }
+        ensures refused { IsTrue S.tells → IfErr result (λ fault. IsOfLine fault →
+            (is_allowed (at S.content self.old []) statement.Show ≡ false) × (fault ≡ not_built line)) }
         ensures kind { IfErr result IsOfWork }
         ensures kept { self.new.was_empty ≡ self.old.was_empty }
         ensures calls { CallsGoOn S.tells S.content S.place S.calls S.faults self.old.store self.new.store }
@@ -228,9 +216,9 @@ impl<S: Store> Session<S> {
         if !self.was_empty {
             return Err(unbuilt(alloc, line));
         }
-        let mut lines = self.finish(alloc, line)?;
-        self.begun = true;
+        let mut lines = Vec::new(alloc);
         push_documents(alloc, &mut self.store, &mut lines)?;
+        self.begun = true;
         Ok(lines)
     }
 }
@@ -238,6 +226,8 @@ impl<S: Store> Session<S> {
 /// The refusal of a line whose form isn't built.
 fn unbuilt(alloc: Global, line: u64) -> Fault
     ensures text { IsOfLine result → result ≡ not_built line }
+    ensures left { (may_run : Bool) (old : Content) (waiting : List WaitingValue) (runs : List RunValue) (place : ℕ → Content) →
+        HasLeft may_run old waiting runs old place runs result }
     ensures kind { IsOfWork result }
     ensures reason { (c : Content) → HasReason c result }
     ensures unspent { IsUnspent result }

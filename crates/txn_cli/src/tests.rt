@@ -200,6 +200,33 @@ fn failing_stores(rt: HostRuntime) -> Result<(), Fail> {
     Ok(())
 }
 
+/// Shows documents while a transaction waits.
+const UNRUN: &str = r#"{"doc":["k","a"],"body":{"v":0}}
+{"txn":"000000000000000000000001","ops":[{"c":"k","d":"a","u":{"$set":{"v":1}}}]}
+{"show":true}
+"#;
+
+/// A batch that runs by itself is a statement of its own: its outcomes are printed, also where the store
+/// fails as the documents are listed behind it.
+#[test]
+fn refused_behind_a_batch(rt: HostRuntime) -> Result<(), Fail> {
+    let alloc = rt.alloc();
+    for call in 15..17u64 {
+        let fails = Fails {
+            store: call,
+            ..NONE
+        };
+        let played = play(alloc, "run", UNRUN, fails)?;
+        assert_eq!(rt; played.status, 5, "{call}");
+        assert_eq!(rt;
+            played.written.as_slice(),
+            b"000000000000000000000001 applied\nstore fault\n".as_slice(),
+            "{call}"
+        );
+    }
+    Ok(())
+}
+
 #[test]
 fn failing_input_and_output(rt: HostRuntime) -> Result<(), Fail> {
     let alloc = rt.alloc();

@@ -1,4 +1,4 @@
-use Rattle.txn_cli.specs.Reading.{IsReading}
+use Rattle.txn_cli.proofs.Coming.{IsReading}
 use Rattle.txn_cli.proofs.command.play.Given as goal
 
 abbrev pub invariant-loop-done : goal.invariant-loop-done

@@ -1,7 +1,9 @@
-use Rattle.std.proofs.Common.{refl, ap, arith}
-use Rattle.txn_cli.specs.Play.{Progress}
-use Rattle.txn_cli.proofs.Readings.{begins_stopped}
+use Rattle.std.proofs.Common.{refl, arith}
+use Rattle.txn_cli.proofs.Readings.{begins_refused, none_go_on}
 use Rattle.txn_cli.proofs.command.run.Goals as goal
 
 pub returns-then-not-is_run-clause-stopped : goal.returns-then-not-is_run-clause-stopped
-returns-then-not-is_run-clause-stopped g c = λ src told e. begins_stopped _ _ _ _ _ _ _ _ _ (omega arith) refl (ap (λ (p : Progress). p.runs) c.requires.begins) tt (λ e. cc)
+returns-then-not-is_run-clause-stopped g c = λ src told. begins_refused _ _ _ _ _ _ _ _ _ (omega arith) refl (record { holds = refl; runs = c.requires.begins.runs })
+
+pub returns-then-not-is_run-clause-runs : goal.returns-then-not-is_run-clause-runs
+returns-then-not-is_run-clause-runs g c = λ told. none_go_on _ _ _ c.requires.begins.runs

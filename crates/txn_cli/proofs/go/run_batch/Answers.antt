@@ -1,7 +1,7 @@
 use Rattle.txn_cli.proofs.Caused.{causes_before}
-use Rattle.std.proofs.Common.{inr, [], refl, sym, ap, ◌∙◌}
+use Rattle.std.proofs.Common.{[], refl, sym, ap, ◌∙◌}
 use Rattle.store_trait.specs.Meaning.{meaning}
-use Rattle.txn_cli.proofs.BatchRuns.{if_ok, batch_runs, batch_done}
+use Rattle.txn_cli.proofs.BatchRuns.{if_ok, batch_runs, batch_done, batch_left}
 use Rattle.txn_cli.proofs.OnlyReading.{runs_only_read}
 use Rattle.store_laws.proofs.Resting.{meaning-rest}
 use Rattle.txn_cli.proofs.Spending.{run_unspent}
@@ -26,8 +26,12 @@ returns-clause-done g c = λ told.
     c.calls-mark.ensures (c.in-Ok.ensures.listed told may.calm.plain ∙ sym (meaning-rest _ may.calm.sound may.calm.rests) ∙ ap meaning (sym (c.in-Ok.ensures.reads told).same)) (rw c.new-order.ensures.items at (c.run_all-lines.ensures.works told))
     _ _ _ refl (rw (c.in-Ok-push.ensures.items, c.in_ok-reserve.ensures.items, c.from_vec.ensures, c.new.ensures) refl) (c.run_all-lines.ensures.uses told) done)
 
-pub returns-clause-grown : goal.returns-clause-grown
-returns-clause-grown g c = inr (record { base = c.in-Ok.base; order = c.run_all-lines.new.order.items; mark = c.calls-mark.result; turns = [] }, (rw (c.in-Ok-push.ensures.items, c.in_ok-reserve.ensures.items, c.from_vec.ensures, c.new.ensures) refl))
+pub returns-clause-left : goal.returns-clause-left
+returns-clause-left g c = λ told.
+    let may = c.requires.may_run told in
+    batch_left _ _ _ _ _ _ _ _ _ (record { base = c.in-Ok.base; order = c.run_all-lines.new.order.items; mark = c.calls-mark.result; turns = [] }) told (λ s. g.met.S.Store.present s told) may (c.in-Ok.ensures.reads told) c.in-Ok.ensures.calls c.run_all-lines.ensures.calls
+    c.calls-mark.ensures (c.in-Ok.ensures.listed told may.calm.plain ∙ sym (meaning-rest _ may.calm.sound may.calm.rests) ∙ ap meaning (sym (c.in-Ok.ensures.reads told).same)) (rw c.new-order.ensures.items at (c.run_all-lines.ensures.works told))
+    c.run_all-lines.result _ _ (rw (c.in-Ok-push.ensures.items, c.in_ok-reserve.ensures.items, c.from_vec.ensures, c.new.ensures) refl) c.run_all-lines.ensures.kind
 
 pub returns-clause-enough : goal.returns-clause-enough
 returns-clause-enough g c = λ told suffices.

@@ -7,10 +7,10 @@ use Rattle.txn_cli.proofs.Sessions.{submitting_held, not_false}
 use Rattle.txn_cli.proofs.session.Session.submit.Goals as goal
 
 pub returns-then-is_full-clause-reason : goal.returns-then-is_full-clause-reason
-returns-then-is_full-clause-reason g c = λ told was. c.unbuilt.ensures.reason _
+returns-then-is_full-clause-reason g c = λ told. c.unbuilt.ensures.reason _
 
 pub returns-then-has-clause-reason : goal.returns-then-has-clause-reason
-returns-then-has-clause-reason g c = λ told was. c.unbuilt-then-has.ensures.reason _
+returns-then-has-clause-reason g c = λ told. c.unbuilt-then-has.ensures.reason _
 
 pub returns-in_err-may_wait-clause-runs : goal.returns-in_err-may_wait-clause-runs
 returns-in_err-may_wait-clause-runs g c = λ told was.
@@ -23,7 +23,7 @@ returns-then-not-branch-clause-runs g c = λ told was.
     runs_only_read _ _ _ _ _ _ _ _ (c.may_wait.ensures.reads told) c.may_wait.ensures.calls told h.may_run.calm.sound h.runs
 
 pub returns-then-not-branch-clause-reason : goal.returns-then-not-branch-clause-reason
-returns-then-not-branch-clause-reason g c = λ told was. c.unbuilt-then-not-branch.ensures.reason _
+returns-then-not-branch-clause-reason g c = λ told. c.unbuilt-then-not-branch.ensures.reason _
 
 pub returns-in_err-push-clause-runs : goal.returns-in_err-push-clause-runs
 returns-in_err-push-clause-runs g c = λ told was.
@@ -42,10 +42,10 @@ returns-clause-runs g c = λ told was.
     runs_only_read _ _ _ _ _ _ _ _ (c.may_wait.ensures.reads told) c.may_wait.ensures.calls told h.may_run.calm.sound h.runs
 
 pub returns-then-is_some-clause-reason : goal.returns-then-is_some-clause-reason
-returns-then-is_some-clause-reason g c = λ told was. c.unbuilt-then-is_some.ensures.reason _
+returns-then-is_some-clause-reason g c = λ told. c.unbuilt-then-is_some.ensures.reason _
 
 pub returns-then-not-is_built-clause-reason : goal.returns-then-not-is_built-clause-reason
-returns-then-not-is_built-clause-reason g c = λ told was. c.unbuilt-then-not-is_built.ensures.reason _
+returns-then-not-is_built-clause-reason g c = λ told. c.unbuilt-then-not-is_built.ensures.reason _
 
 pub returns-then-is_full-clause-cause : goal.returns-then-is_full-clause-cause
 returns-then-is_full-clause-cause g c = caused_otherwise _ _ empty _ _ _ (c.unbuilt.ensures.reason empty) c.unbuilt.ensures.unspent
