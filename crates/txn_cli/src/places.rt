@@ -77,9 +77,6 @@ fn is_there<S: Store>(alloc: Global, store: &mut S, name: &Name) -> Result<bool,
     ensures fault { IsErrOf result Fault.Store → Rose (S.faults store.old) (S.faults store.new) }
     ensures other { OnErr result ((result ≡ Err Fault.Store) ⊎ (result ≡ Err Fault.OutOfMemory)) }
 {
-    match store.read(alloc, name) {
-        Ok(found) => Ok(found.is_some()),
-        Err(StoreError::Failed) => Err(Fault::Store),
-        Err(StoreError::OutOfMemory) => Err(Fault::OutOfMemory),
-    }
+    let found = store.read(alloc, name)?;
+    Ok(found.is_some())
 }
