@@ -1,4 +1,4 @@
-use Rattle.std.specs.Prelude.{◌≡◌, ◌↔◌, true, IsTrue, List, Result, OnOk, IsErrOf, is_some, option_map}
+use Rattle.std.specs.Prelude.{◌≡◌, ◌↔◌, true, IsTrue, List, [], Result, OnOk, IsErrOf, is_some, option_map}
 use Rattle.std.specs.List.{list_all}
 use Rattle.std.specs.FinMap.{get, entries}
 use Rattle.store_trait.specs.Names.{may_stand}
@@ -18,12 +18,12 @@ pub record IsKept (cells : List (Name × Cell)) (told : Told) : Type 0 where
   pub kinds : list_all (λ entry. may_stand entry.0 entry.1) cells ≡ true
   pub counted : IsCounted told
 
--- What a call makes of what is told. It fails exactly where it is to; one that is refused for memory
--- isn't counted; one that is made is counted, and its changes are in the log.
+-- What a call makes of what is told. It fails exactly where it is to. One that doesn't is counted,
+-- and its changes are in the log; where it is refused for memory there are none.
 pub record IsCall {A : Type 0} (old new : Told) (changes : List Logged) (result : Result A StoreError) : Type 0 where
   pub fails : IsErrOf result Failed ↔ IsTrue (fails_next old)
   pub failure : IsErrOf result Failed → new ≡ failed old
-  pub memory : IsErrOf result OutOfMemory → new ≡ old
+  pub memory : IsErrOf result OutOfMemory → new ≡ called old []
   pub success : OnOk result (new ≡ called old changes)
   pub counted : IsCounted old
 
