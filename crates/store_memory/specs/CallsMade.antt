@@ -10,7 +10,7 @@ use Rattle.store_trait.specs.declared.cell.Cell.{Cell}
 use Rattle.store_trait.specs.declared.store.StoreError.{StoreError}
 use Rattle.store_trait.specs.declared.store.StoreError.TheVariants.{Failed, OutOfMemory}
 use Rattle.store_memory.specs.declared.log.Logged.{Logged}
-use Rattle.store_memory.specs.Told.{Told, content_of, IsCounted, fails_next, failed, called}
+use Rattle.store_memory.specs.Told.{Told, content_of, IsCounted, fails_next, failed, called, changes_of}
 
 -- The cells are the present content, each of its name's kind, and what is told is counted.
 pub record IsKept (cells : List (Name × Cell)) (told : Told) : Type 0 where
@@ -27,8 +27,8 @@ pub record IsCall {A : Type 0} (old new : Told) (changes : List Logged) (result 
   pub success : OnOk result (new ≡ called old changes)
   pub counted : IsCounted old
 
--- what the store says of a call: its answer is that of the content
+-- What the store says of a call: its answer is that of the content, and what is told afterwards.
 abbrev pub Answered : Told → Exchange → Told → Type 0
-Answered old (Reads name found) new = found ≡ get (content_of old) name
-Answered old (Edits name edit done cell) new = (done ≡ is_some (hit edit name (get (content_of old) name))) × (cell ≡ get (content_of new) name)
-Answered old (Lists after found) new = found ≡ option_map named (first_past after (content_of old))
+Answered old (Reads name found) new = (found ≡ get (content_of old) name) × (new ≡ called old [])
+Answered old (Edits name edit done cell) new = (done ≡ is_some (hit edit name (get (content_of old) name))) × (cell ≡ get (content_of new) name) × (new ≡ called old (changes_of old name edit))
+Answered old (Lists after found) new = (found ≡ option_map named (first_past after (content_of old))) × (new ≡ called old [])
