@@ -13,11 +13,11 @@ ghost use Rattle.txn_runner.specs.Built.{is_built, is_built_change, is_update, u
 ghost use Rattle.txn_runner.specs.Numbers.{Uses};
 ghost use Rattle.txn_runner.specs.Stages.{steps_left, suits, UsesUpTo};
 
+use crate::assertions::tests_hold;
 use crate::built::{only, update_of};
 use crate::calls::{edit, may_hit, must_hit, read_document};
 use crate::error::StepError;
 use crate::stage::Stage;
-use crate::testing::tests_hold;
 use crate::waiting::Waiting;
 use doc_value::OutOfMemory;
 use sqlite_items::Items;
