@@ -1,13 +1,15 @@
 //! The steps by which a transaction is settled, one stage after the other. Each makes one call on the
 //! store at most, and answers what is left to do after it.
 
-ghost use Rattle.std.specs.Prelude.{◌≡◌, ◌<◌, ℕ, List, [], ◌∷◌, true, false, None, IsTrue, IfOk, IfErr, OnOk};
+ghost use Rattle.std.specs.Prelude.{◌≡◌, ◌<◌, ℕ, List, [], ◌∷◌, true, false, None, IsTrue, IfOk, IfErr, OnOk, OnErr, is_some, ◌++◌};
+ghost use Rattle.std.specs.FinMap.{get};
+ghost use Rattle.store_trait.specs.Edits.{hit, edited};
 ghost use Rattle.store_trait.specs.Calls.{OneCall};
 ghost use Rattle.txn_record.specs.declared.entry.Entry.{Entry as LogEntry};
 ghost use Rattle.txn_record.specs.Revnos.{has_effect};
 ghost use Rattle.store_trait.specs.View.{record_at};
 ghost use Rattle.txn_runner.specs.Calm.{IsCalm};
-ghost use Rattle.txn_runner.specs.Causes.{HasCause, IsOfStore, LastShows, ShowsRepeated, drawn_of};
+ghost use Rattle.txn_runner.specs.Causes.{HasCause, IsMissed, IsOfStore, LastShows, ShowsRepeated, drawn_of};
 ghost use Rattle.txn_runner.specs.Settling.{IsWorth, WorksOn, ComesToStage, IsSubmitted, preparing_record};
 ghost use Rattle.txn_runner.specs.Built.{is_built, is_built_change, is_update, updates};
 ghost use Rattle.txn_runner.specs.Numbers.{Uses};
@@ -209,14 +211,14 @@ pub fn decide<S: Store>(
     ensures call { OneCall S.tells S.content S.place S.calls S.faults store.old store.new result StepError.StoreFault }
 {
     if holds {
-        apply(alloc, store, order, txn, nonce, revno)
+        decide_to_apply(alloc, store, order, txn, nonce, revno)
     } else {
-        give_up(alloc, store, order, txn, nonce, revno)
+        decide_to_abort(alloc, store, order, txn, nonce, revno)
     }
 }
 
 /// Its tests hold: its record starts to apply, with the number that its operation found.
-fn apply<S: Store>(
+fn decide_to_apply<S: Store>(
     alloc: Global,
     store: &mut S,
     order: &mut Vec<Entry>,
@@ -236,24 +238,14 @@ fn apply<S: Store>(
     ensures call { OneCall S.tells S.content S.place S.calls S.faults store.old store.new result StepError.StoreFault }
 {
     let revnos = Items::from_slice(alloc, &[revno])?;
-    let mut entry = entry_of(alloc, txn, Outcome::Applied, &[revno])?;
-    order.reserve(1)?;
     let change = Edit::Move {
         from: State::Prepared,
         to: State::Applying,
         nonce: None,
         revnos: Some(revnos),
     };
-    match must_hit(alloc, store, txn.id, Name::Record(txn.id), change) {
-        Ok(()) => {
-            entry.at = store.calls();
-            match order.push(entry) {
-                Ok(()) => Ok(after_decision(only(&txn.ops), nonce, revno)),
-                Err(_) => unreachable!(),
-            }
-        }
-        Err(error) => Err(error),
-    }
+    record_decision(alloc, store, order, txn, change, Outcome::Applied, &[revno])?;
+    Ok(after_decision(only(&txn.ops), nonce, revno))
 }
 
 /// What is left to do for a transaction that applies: its update, where its operation makes one.
@@ -271,7 +263,7 @@ fn after_decision(op: &Op, nonce: u32, revno: i64) -> Stage
 }
 
 /// A test fails: its record is to be aborted.
-fn give_up<S: Store>(
+fn decide_to_abort<S: Store>(
     alloc: Global,
     store: &mut S,
     order: &mut Vec<Entry>,
@@ -289,23 +281,45 @@ fn give_up<S: Store>(
     ensures cause { IfErr result (HasCause S.answered S.calls store.old store.new txn.now.id) }
     ensures call { OneCall S.tells S.content S.place S.calls S.faults store.old store.new result StepError.StoreFault }
 {
-    let mut entry = entry_of(alloc, txn, Outcome::Aborted, &[])?;
-    order.reserve(1)?;
     let change = Edit::Move {
         from: State::Prepared,
         to: State::Aborting,
         nonce: None,
         revnos: None,
     };
-    match must_hit(alloc, store, txn.id, Name::Record(txn.id), change) {
-        Ok(()) => {
-            entry.at = store.calls();
-            match order.push(entry) {
-                Ok(()) => Ok(Stage::Abort),
-                Err(_) => unreachable!(),
-            }
-        }
-        Err(error) => Err(error),
+    record_decision(alloc, store, order, txn, change, Outcome::Aborted, &[])?;
+    Ok(Stage::Abort)
+}
+
+/// Moves a transaction's record by the call that decides it, and adds the decision to the order. Memory
+/// is taken first, so that no decision is missing there.
+fn record_decision<S: Store>(
+    alloc: Global,
+    store: &mut S,
+    order: &mut Vec<Entry>,
+    txn: &Waiting,
+    change: Edit,
+    outcome: Outcome,
+    revnos: &[i64],
+) -> Result<(), StepError>
+    ensures made { IsTrue S.tells → OnOk result (S.content store.new ≡ edited (S.content store.old) (Name.Record txn.now.id) change) }
+    ensures added { OnOk result (order.new.items ≡ order.old.items
+        ++ record { id = txn.now.id; ops = txn.now.ops; outcome = outcome; revnos = revnos.now; at = S.calls store.new } ∷ []) }
+    ensures kept { OnErr result (order.new.items ≡ order.old.items) }
+    ensures left { IsTrue S.tells → is_some (hit change (Name.Record txn.now.id) (get (S.content store.old) (Name.Record txn.now.id))) ≡ true →
+        OnErr result (S.content store.new ≡ S.content store.old) }
+    ensures never { IsTrue S.tells → is_some (hit change (Name.Record txn.now.id) (get (S.content store.old) (Name.Record txn.now.id))) ≡ true →
+        IfErr result IsOfStore }
+    ensures cause { IfErr result (IsMissed S.answered S.calls store.old txn.now.id (Name.Record txn.now.id) change store.new) }
+    ensures call { OneCall S.tells S.content S.place S.calls S.faults store.old store.new result StepError.StoreFault }
+{
+    let mut entry = entry_of(alloc, txn, outcome, revnos)?;
+    order.reserve(1)?;
+    must_hit(alloc, store, txn.id, Name::Record(txn.id), change)?;
+    entry.at = store.calls();
+    match order.push(entry) {
+        Ok(()) => Ok(()),
+        Err(_) => unreachable!(),
     }
 }
 
