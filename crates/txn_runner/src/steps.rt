@@ -26,10 +26,7 @@ use sqlite_items::Items;
 use std::alloc::Global;
 use store_trait::{Edit, Name, Store, counter_in};
 use txn_key::{Token, TxnId};
-use txn_record::{Change, Entry, Op, Outcome, Record, State};
-
-/// The greatest absolute value of a revision number at which a chain may begin.
-const LAST_REVNO: u64 = 4_611_686_018_427_386_903;
+use txn_record::{Change, Entry, Op, Outcome, Record, State, has_room};
 
 /// The counter of nonces at which none is left.
 const LAST_COUNTER: u32 = u32::MAX;
@@ -122,10 +119,8 @@ pub fn queue<S: Store>(
     let id = txn.id;
     let name = Name::Doc(only(&txn.ops).key.copy(alloc)?);
     let token = Token { id, nonce };
-    match must_hit(alloc, store, id, name, Edit::AddToken { token }) {
-        Ok(()) => Ok(Stage::Prepare { nonce }),
-        Err(error) => Err(error),
-    }
+    must_hit(alloc, store, id, name, Edit::AddToken { token })?;
+    Ok(Stage::Prepare { nonce })
 }
 
 /// Moves the transaction's record to prepared.
@@ -151,10 +146,8 @@ pub fn prepare<S: Store>(
         nonce: Some(nonce),
         revnos: None,
     };
-    match must_hit(alloc, store, txn.id, Name::Record(txn.id), change) {
-        Ok(()) => Ok(Stage::Look { nonce }),
-        Err(error) => Err(error),
-    }
+    must_hit(alloc, store, txn.id, Name::Record(txn.id), change)?;
+    Ok(Stage::Look { nonce })
 }
 
 /// Reads the transaction's document: its number, and whether the transaction's tests hold there.
@@ -177,14 +170,15 @@ pub fn look<S: Store>(
 {
     let op = only(&txn.ops);
     let key = op.key.copy(alloc)?;
-    match read_document(alloc, store, txn.id, &op.key) {
-        Ok(doc) if doc.revno.unsigned_abs() > LAST_REVNO => Err(StepError::RevnoSpent { key }),
-        Ok(doc) => Ok(Stage::Decide {
+    let doc = read_document(alloc, store, txn.id, &op.key)?;
+    if has_room(doc.revno) {
+        Ok(Stage::Decide {
             nonce,
             revno: doc.revno,
             holds: tests_hold(op, &doc.body),
-        }),
-        Err(error) => Err(error),
+        })
+    } else {
+        Err(StepError::RevnoSpent { key })
     }
 }
 
@@ -372,10 +366,8 @@ pub fn update<S: Store>(
         token,
         update,
     };
-    match may_hit(alloc, store, name, change) {
-        Ok(_) => Ok(Stage::Finish),
-        Err(error) => Err(error),
-    }
+    may_hit(alloc, store, name, change)?;
+    Ok(Stage::Finish)
 }
 
 /// Moves the transaction's record to applied.
@@ -396,10 +388,8 @@ pub fn finish<S: Store>(alloc: Global, store: &mut S, txn: &Waiting) -> Result<S
         nonce: None,
         revnos: None,
     };
-    match must_hit(alloc, store, txn.id, Name::Record(txn.id), change) {
-        Ok(()) => Ok(Stage::Settled(Outcome::Applied)),
-        Err(error) => Err(error),
-    }
+    must_hit(alloc, store, txn.id, Name::Record(txn.id), change)?;
+    Ok(Stage::Settled(Outcome::Applied))
 }
 
 /// Moves the transaction's record to aborted.
@@ -420,8 +410,6 @@ pub fn abort<S: Store>(alloc: Global, store: &mut S, txn: &Waiting) -> Result<St
         nonce: None,
         revnos: None,
     };
-    match must_hit(alloc, store, txn.id, Name::Record(txn.id), change) {
-        Ok(()) => Ok(Stage::Settled(Outcome::Aborted)),
-        Err(error) => Err(error),
-    }
+    must_hit(alloc, store, txn.id, Name::Record(txn.id), change)?;
+    Ok(Stage::Settled(Outcome::Aborted))
 }
