@@ -97,7 +97,8 @@ impl MemoryStore {
             return Err(self.fail());
         }
         self.calls += 1;
-        Ok(places::copy_under(alloc, &self.cells, name)?)
+        let found = places::copy_under(alloc, &self.cells, name)?;
+        Ok(found)
     }
 
     /// The first cell past a name, or the first of all.
@@ -117,7 +118,8 @@ impl MemoryStore {
             return Err(self.fail());
         }
         self.calls += 1;
-        Ok(places::copy_past(alloc, &self.cells, after)?)
+        let found = places::copy_past(alloc, &self.cells, after)?;
+        Ok(found)
     }
 
     /// Makes an edit of the cell under a name, where its guard holds.

@@ -19,9 +19,9 @@ invariant_of-self-2 c = kept_later c.self.inside.cells.items c.self.inside.log.i
 pub returns-clause-found : goal.returns-clause-found
 returns-clause-found c =
     let name = c.args.name.now in
-    c.in_ok-copy_under.ensures ∙ ap (value_of name_cmp name) c.deref.ensures.value ∙ found_there c.self.inside.cells.items (told_of c.self.inside.log.items c.self.inside.fails.items c.self.inside.calls c.self.inside.faults) name c.self.invariant ∙ ap (λ (t : Told). get (content_of t) name) c.self.view_is
+    c.in_ok-found.ensures ∙ ap (value_of name_cmp name) c.deref.ensures.value ∙ found_there c.self.inside.cells.items (told_of c.self.inside.log.items c.self.inside.fails.items c.self.inside.calls c.self.inside.faults) name c.self.invariant ∙ ap (λ (t : Told). get (content_of t) name) c.self.view_is
 
 pub returns-clause-kind : goal.returns-clause-kind
 returns-clause-kind c =
     let name = c.args.name.now in
-    kind_there c.self.inside.cells.items (told_of c.self.inside.log.items c.self.inside.fails.items c.self.inside.calls c.self.inside.faults) name c.in_ok-copy_under.field-0 c.self.invariant (c.in_ok-copy_under.ensures ∙ ap (value_of name_cmp name) c.deref.ensures.value)
+    kind_there c.self.inside.cells.items (told_of c.self.inside.log.items c.self.inside.fails.items c.self.inside.calls c.self.inside.faults) name c.in_ok-found.found c.self.invariant (c.in_ok-found.ensures ∙ ap (value_of name_cmp name) c.deref.ensures.value)

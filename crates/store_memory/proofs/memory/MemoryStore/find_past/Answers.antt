@@ -16,9 +16,9 @@ pub invariant_of-self-2 : goal.invariant_of-self-2
 invariant_of-self-2 c = kept_later c.self.inside.cells.items c.self.inside.log.items c.self.inside.fails.items c.self.inside.calls c.self.inside.faults _ _ c.self.invariant (omega arith) c.self.invariant.counted.faults
 
 pub returns-clause-past : goal.returns-clause-past
-returns-clause-past c = past_there (option_copied c.args.after) c.deref.result.now c.in_ok-copy_past.field-0 c.in_ok-copy_past.ensures
+returns-clause-past c = past_there (option_copied c.args.after) c.deref.result.now c.in_ok-found.found c.in_ok-found.ensures
 
 pub returns-clause-kind : goal.returns-clause-kind
 returns-clause-kind c =
     let after = option_copied c.args.after in
-    kind_listed c.self.inside.cells.items (told_of c.self.inside.log.items c.self.inside.fails.items c.self.inside.calls c.self.inside.faults) after c.in_ok-copy_past.field-0 c.self.invariant (c.in_ok-copy_past.ensures ∙ ap (λ (cells : List Entry). option_map named (find (λ entry. is_past after entry.0) cells)) c.deref.ensures.value)
+    kind_listed c.self.inside.cells.items (told_of c.self.inside.log.items c.self.inside.fails.items c.self.inside.calls c.self.inside.faults) after c.in_ok-found.found c.self.invariant (c.in_ok-found.ensures ∙ ap (λ (cells : List Entry). option_map named (find (λ entry. is_past after entry.0) cells)) c.deref.ensures.value)
