@@ -1,16 +1,18 @@
-use Rattle.std.proofs.Common.{◌≡◌, ℕ, ◌+◌, ◌≤◌, ◌<◌, ◌⊎◌, min, Bool, true, false, cond, nat_le, nat_lt, List, [], Result, Ok, Err, OnOk, OnErr, IsErrOf, inl, inr, refl, sym, ap, ◌∙◌, subst, arith}
+use Rattle.std.proofs.Common.{◌≡◌, ℕ, ◌+◌, ◌≤◌, ◌<◌, ◌⊎◌, min, Bool, true, false, cond, nat_le, nat_lt, List, [], Result, Ok, Err, OnOk, OnErr, IsErrOf, IsTrue, ◌||◌, inl, inr, refl, sym, ap, ◌∙◌, subst, true≢false, arith}
 use Rattle.std.proofs.lemmas.Bool.Decides.{nat_tests}
 use Rattle.std.specs.FinMap.{get}
+use Rattle.store_trait.specs.Contents.{Content}
 use Rattle.store_trait.specs.Edits.{Hit, edited, hit as hit_of}
-use Rattle.store_trait.specs.Calls.{OneCall, Rose}
+use Rattle.store_trait.specs.Calls.{OneCall, Rose, call_limit, counted_call}
 use Rattle.store_trait.specs.declared.edit.Edit.{Edit}
 use Rattle.store_trait.specs.declared.name.Name.{Name}
 use Rattle.store_trait.specs.declared.store.StoreError.{StoreError}
 use Rattle.store_trait.specs.declared.store.StoreError.TheVariants.{Failed, OutOfMemory}
-use Rattle.store_memory.specs.Told.{Told, IsCounted, place_of, content_of, calls_of, faults_of, fault_limit, call_limit, failed, logged}
+use Rattle.store_memory.specs.Told.{Told, IsCounted, place_of, content_of, calls_of, faults_of, fault_limit, fails_next, failed, logged, noted, called, changes_of}
 use Rattle.store_memory.specs.CallsMade.{IsCall}
 use Rattle.store_memory.specs.declared.log.Logged.{Logged}
-use Rattle.store_memory.proofs.Trail.{AreAt, content_stays, content_same, content_after, logged_at, places_stay}
+use Rattle.store_memory.proofs.Keeping.{told_of, counted_content}
+use Rattle.store_memory.proofs.Trail.{AreAt, made_test, content_stays, content_same, content_after, logged_at, places_stay}
 
 not_less : (b : Bool) (calls : ℕ) → calls ≤ cond b calls (calls + 1)
 not_less true calls = omega arith
@@ -48,12 +50,12 @@ module _ {A : Type 0} (old new : Told) (changes : List Logged) (now : AreAt (old
   content_err : (result : Result A StoreError) → IsCall old new changes result → OnErr result (content_of new ≡ content_of old)
   content_err (Ok answer) call = tt
   content_err (Err Failed) call = failed_same old new (call.failure refl) call.counted
-  content_err (Err OutOfMemory) call = ap content_of (call.memory refl)
+  content_err (Err OutOfMemory) call = ap content_of (call.memory refl) ∙ content_same old call.counted.made
 
   before : (result : Result A StoreError) → IsCall old new changes result → (n : ℕ) → n ≤ old.calls → place_of new n ≡ place_of old n
   before (Ok answer) call n le = ap (λ (t : Told). place_of t n) call.success ∙ places_stay old changes now n le
   before (Err Failed) call n le = ap (λ (t : Told). place_of t n) (call.failure refl)
-  before (Err OutOfMemory) call n le = ap (λ (t : Told). place_of t n) (call.memory refl)
+  before (Err OutOfMemory) call n le = ap (λ (t : Told). place_of t n) (call.memory refl) ∙ places_stay old [] tt n le
 
   counted : (result : Result A StoreError) → IsCall old new changes result → OnOk result (calls_of new ≡ calls_of old + 1)
   counted (Ok answer) call = ap calls_of call.success
@@ -62,7 +64,7 @@ module _ {A : Type 0} (old new : Told) (changes : List Logged) (now : AreAt (old
   counted_err : (result : Result A StoreError) → IsCall old new changes result → OnErr result ((calls_of new ≡ calls_of old + 1) ⊎ (calls_of new ≡ calls_of old))
   counted_err (Ok answer) call = tt
   counted_err (Err Failed) call = subst (λ (n : ℕ). (n ≡ calls_of old + 1) ⊎ (n ≡ calls_of old)) (sym (ap calls_of (call.failure refl))) (one_more (nat_le call_limit old.calls) old.calls)
-  counted_err (Err OutOfMemory) call = inr (ap calls_of (call.memory refl))
+  counted_err (Err OutOfMemory) call = inl (ap calls_of (call.memory refl))
 
   later : (result : Result A StoreError) → IsCall old new changes result → faults_of old ≤ faults_of new
   later (Ok answer) call = omega (arith, ap faults_of call.success)
@@ -84,20 +86,53 @@ module _ {A : Type 0} (old new : Told) (changes : List Logged) (now : AreAt (old
     fault = rose result call;
   }
 
+counts : (spent chosen : Bool) (calls : ℕ) → (IsTrue (spent || chosen) → ⊥) → cond spent calls (calls + 1) ≡ calls + 1
+counts true chosen calls h = absurd (h refl)
+counts false chosen calls h = refl
+
+reached : (calls : ℕ) (chosen : Bool) → call_limit ≤ calls → IsTrue (nat_le call_limit calls || chosen)
+reached calls chosen le = ap (λ (b : Bool). b || chosen) (made_test call_limit calls le)
+
+-- each call is counted, up to the last
+module _ {A : Type 0} (old new : Told) (changes : List Logged) where
+  counted_once : (result : Result A StoreError) → IsCall old new changes result → (IsErrOf result Failed → ⊥) → old.calls + 1 ≡ counted_call old.calls
+  counted_once result call other = sym (counts (nat_le call_limit old.calls) _ old.calls (λ fails. other (call.fails.1 fails)))
+
+  pub call_counted : (result : Result A StoreError) → IsCall old new changes result → calls_of new ≡ counted_call (calls_of old)
+  call_counted (Ok answer) call = ap calls_of call.success ∙ counted_once (Ok answer) call (λ h. cc h)
+  call_counted (Err Failed) call = ap calls_of (call.failure refl)
+  call_counted (Err OutOfMemory) call = ap calls_of (call.memory refl) ∙ counted_once (Err OutOfMemory) call (λ h. cc h)
+
+  pub call_spent : (result : Result A StoreError) → IsCall old new changes result → call_limit ≤ calls_of old → IsErrOf result Failed
+  call_spent result call le = call.fails.1 (reached old.calls _ le)
+
 -- a call that edits
 module _ (old new : Told) (name : Name) (edit : Edit) where
   abbrev hit : Hit
   hit = hit_of edit name (get (content_of old) name)
 
-  pub edit_call : {A : Type 0} (result : Result A StoreError) → IsCall old new (logged (old.calls + 1) name edit hit) result → OneCall true content_of place_of calls_of faults_of old new result Failed
+  pub edit_call : {A : Type 0} (result : Result A StoreError) → IsCall old new (changes_of old name edit) result → OneCall true content_of place_of calls_of faults_of old new result Failed
   edit_call result call = one_call old new _ (logged_at (old.calls + 1) name edit hit) result call
 
-  pub edit_ok : {A : Type 0} (result : Result A StoreError) → IsCall old new (logged (old.calls + 1) name edit hit) result → OnOk result (content_of new ≡ edited (content_of old) name edit)
+  pub edit_ok : {A : Type 0} (result : Result A StoreError) → IsCall old new (changes_of old name edit) result → OnOk result (content_of new ≡ edited (content_of old) name edit)
   edit_ok (Ok answer) call = ap content_of call.success ∙ content_after old name edit hit call.counted.made refl
   edit_ok (Err error) call = tt
 
-  pub edit_err : {A : Type 0} (result : Result A StoreError) → IsCall old new (logged (old.calls + 1) name edit hit) result → OnErr result (content_of new ≡ content_of old)
+  pub edit_err : {A : Type 0} (result : Result A StoreError) → IsCall old new (changes_of old name edit) result → OnErr result (content_of new ≡ content_of old)
   edit_err result call = content_err old new _ (logged_at (old.calls + 1) name edit hit) result call
+
+-- an edit that was noted after its call was counted
+pub edit_made : {A : Type 0} (log : List Logged) (fails : List ℕ) (calls faults : ℕ) (old new : Told) (name : Name) (edit : Edit) (answer : A)
+    → told_of log fails calls faults ≡ old → fails_next old ≡ false → IsCounted (told_of log fails calls faults)
+    → new ≡ noted (told_of log fails (calls + 1) faults) (logged (calls + 1) name edit (hit_of edit name (get (content_of (told_of log fails (calls + 1) faults)) name)))
+    → IsCall old new (changes_of old name edit) (Ok answer)
+edit_made log fails calls faults old new name edit answer is runs made told = record {
+  fails = (λ fails. absurd (cc fails), λ fails. absurd (true≢false (sym fails ∙ runs)));
+  failure = λ fails. absurd (cc fails);
+  memory = λ fails. absurd (cc fails);
+  success = told ∙ ap (λ (c : Content). noted (told_of log fails (calls + 1) faults) (logged (calls + 1) name edit (hit_of edit name (get c name)))) (counted_content log fails calls faults old is made) ∙ ap (λ (t : Told). called t (logged (t.calls + 1) name edit (hit_of edit name (get (content_of old) name)))) is;
+  counted = subst IsCounted is made;
+}
 
 -- a call that only reads
 module _ {A : Type 0} (old new : Told) where

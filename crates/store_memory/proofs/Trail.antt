@@ -6,9 +6,9 @@ use Rattle.store_trait.specs.Edits.{Hit, edited, put_under, hit as hit_of}
 use Rattle.store_trait.specs.declared.edit.Edit.{Edit}
 use Rattle.store_trait.specs.declared.name.Name.{Name}
 use Rattle.store_memory.specs.declared.log.Logged.{Logged}
-use Rattle.store_memory.specs.Told.{Told, with_change, replayed, place_of, content_of, IsMadeBy, logged, called}
+use Rattle.store_memory.specs.Told.{Told, with_change, replayed, place_of, content_of, IsMadeBy, logged, called, noted}
 
-made_test : (at calls : ℕ) → at ≤ calls → nat_le at calls ≡ true
+pub made_test : (at calls : ℕ) → at ≤ calls → nat_le at calls ≡ true
 made_test at calls h = grind (arith, nat_tests)
 
 later_test : (at calls : ℕ) → calls < at → nat_le at calls ≡ false
@@ -57,9 +57,9 @@ replayed-later c [] call n h le = refl
 replayed-later c (change ∷ changes) call n h le =
     ap (λ d. replayed d changes n) (with_later n change c (omega (arith, h.0))) ∙ replayed-later c changes call n h.1 le
 
--- the next call's changes are all made by then
-pub called_made : (told : Told) (changes : List Logged) → AreAt (told.calls + 1) changes → IsMadeBy told.calls told.log → IsMadeBy (told.calls + 1) (told.log ++ changes)
-called_made told changes now h = made_more told.log changes (told.calls + 1) (made_later told.log told.calls (told.calls + 1) h (omega arith)) now
+-- changes that are noted at a call are made by then
+pub noted_made : (told : Told) (changes : List Logged) → AreAt told.calls changes → IsMadeBy told.calls told.log → IsMadeBy told.calls (told.log ++ changes)
+noted_made told changes now h = made_more told.log changes told.calls h now
 
 pub later_made : (told : Told) (calls : ℕ) → IsMadeBy told.calls told.log → told.calls ≤ calls → IsMadeBy calls told.log
 later_made told calls h le = made_later told.log told.calls calls h le
@@ -82,6 +82,13 @@ content_after told name edit None h is = called_content told [] h
 content_after told name edit (Some after) h is =
     let change : Logged = record { at = told.calls + 1; name = name; edit = edit } in
     called_content told (change ∷ []) h ∙ with_made (told.calls + 1) change (content_of told) (omega arith) ∙ ap (put_under (content_of told) name) is
+
+-- an edit that is noted at the present call makes what it hits
+pub noted_content : (told : Told) (name : Name) (edit : Edit) (hit : Hit) → hit_of edit name (get (content_of told) name) ≡ hit → content_of (noted told (logged told.calls name edit hit)) ≡ put_under (content_of told) name hit
+noted_content told name edit None is = replayed-append empty told.log [] told.calls
+noted_content told name edit (Some after) is =
+    let change : Logged = record { at = told.calls; name = name; edit = edit } in
+    replayed-append empty told.log (change ∷ []) told.calls ∙ with_made told.calls change (content_of told) (omega arith) ∙ ap (put_under (content_of told) name) is
 
 -- the changes of the next call are in no earlier place of the trail
 pub places_stay : (told : Told) (changes : List Logged) → AreAt (told.calls + 1) changes → (n : ℕ) → n ≤ told.calls → place_of (called told changes) n ≡ place_of told n

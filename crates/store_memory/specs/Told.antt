@@ -1,9 +1,10 @@
 use Rattle.std.specs.Prelude.{ℕ, ◌+◌, ◌≤◌, min, Bool, ◌||◌, ◌==◌, nat_le, Some, None, List, [], ◌∷◌, ◌++◌, if◌then◌else◌, refl}
 use Rattle.std.specs.Coded.{Coded, code_by, coded×, coded_list, coded_ℕ}
 use Rattle.std.specs.List.{list_any}
-use Rattle.std.specs.FinMap.{empty}
+use Rattle.std.specs.FinMap.{empty, get}
+use Rattle.store_trait.specs.Calls.{call_limit, counted_call}
 use Rattle.store_trait.specs.Contents.{Content}
-use Rattle.store_trait.specs.Edits.{Hit, edited}
+use Rattle.store_trait.specs.Edits.{Hit, hit, edited}
 use Rattle.store_trait.specs.declared.edit.Edit.{Edit}
 use Rattle.store_trait.specs.declared.name.Name.{Name}
 use Rattle.store_memory.specs.declared.log.Logged.{Logged}
@@ -60,22 +61,26 @@ pub record IsCounted (told : Told) : Type 0 where
   pub made : IsMadeBy told.calls told.log
   pub faults : told.faults ≤ fault_limit
 
--- how many calls a store counts at most
-abbrev pub call_limit : ℕ
-call_limit = 9223372036854775808
-
 -- whether the next call fails: it is numbered so, or no call is counted any more
 abbrev pub fails_next : Told → Bool
 fails_next told = nat_le call_limit told.calls || list_any (λ call. call == told.calls + 1) told.fails
 
 -- what is told once the next call has failed
 abbrev pub failed : Told → Told
-failed told = record told { calls = if nat_le call_limit told.calls then told.calls else told.calls + 1; faults = min (told.faults + 1) fault_limit }
+failed told = record told { calls = counted_call told.calls; faults = min (told.faults + 1) fault_limit }
 
 -- what the log gets of an edit of a cell: nothing where it missed
 abbrev pub logged : ℕ → Name → Edit → Hit → List Logged
 logged call name edit None = []
 logged call name edit (Some after) = record { at = call; name = name; edit = edit } ∷ []
+
+-- what the log gets of the next call, where that edits a cell
+abbrev pub changes_of : Told → Name → Edit → List Logged
+changes_of told name edit = logged (told.calls + 1) name edit (hit edit name (get (content_of told) name))
+
+-- what is told once the log got these changes
+abbrev pub noted : Told → List Logged → Told
+noted told changes = record told { log = told.log ++ changes }
 
 -- what is told once the next call was made, with these changes
 abbrev pub called : Told → List Logged → Told

@@ -1,13 +1,14 @@
-ghost use Rattle.std.specs.Prelude.{◌≡◌, ◌+◌, ◌<◌, ◌≤◌, nat_le, if◌then◌else◌, [], ◌∷◌, ◌++◌, true, false, not, Some, None, vec_len, vec_capacity, IsTrue, IfOk, IfSome, OnOk, OnErr, is_some, option_map};
+ghost use Rattle.std.specs.Prelude.{◌≡◌, ◌<◌, ◌≤◌, [], ◌∷◌, ◌++◌, true, false, not, Some, None, vec_len, vec_capacity, IsTrue, IfOk, IfSome, OnOk, OnErr, is_some, option_map};
 ghost use Rattle.std.specs.Option.{option_copied};
 ghost use Rattle.std.specs.FinMap.{empty, get};
 ghost use Rattle.std.specs.FinMap.Entries.{put, is_sorted, where_key};
 ghost use Rattle.store_trait.specs.Names.{name_cmp, may_stand};
 ghost use Rattle.store_trait.specs.Contents.{is_past, first_past, named};
 ghost use Rattle.store_trait.specs.Edits.{hit, may_leave};
+ghost use Rattle.store_trait.specs.Calls.{counted_call};
 ghost use Rattle.store_trait.specs.Changes.{as_hit};
 ghost use Rattle.std.specs.Ordering.{eq_by_cmp};
-ghost use Rattle.store_memory.specs.Told.{opened, content_of, IsCounted, call_limit, fails_next, failed, logged, called};
+ghost use Rattle.store_memory.specs.Told.{opened, content_of, IsCounted, fails_next, failed, logged, changes_of, noted};
 ghost use Rattle.store_memory.specs.CallsMade.{IsCall};
 
 use crate::log::Logged;
@@ -95,8 +96,8 @@ impl MemoryStore {
         if self.fails_next() {
             return Err(self.fail());
         }
-        let found = places::copy_under(alloc, &self.cells, name)?;
         self.calls += 1;
+        let found = places::copy_under(alloc, &self.cells, name)?;
         Ok(found)
     }
 
@@ -116,8 +117,8 @@ impl MemoryStore {
         if self.fails_next() {
             return Err(self.fail());
         }
-        let found = places::copy_past(alloc, &self.cells, after)?;
         self.calls += 1;
+        let found = places::copy_past(alloc, &self.cells, after)?;
         Ok(found)
     }
 
@@ -132,27 +133,24 @@ impl MemoryStore {
             (λ done. done.hit ≡ is_some (hit edit.now name.now (get (content_of self.old) name.now))) }
         ensures after { IfOk result (λ done. done.cell ≡ get (content_of self.new) name.now) }
         ensures kind { IfOk result (λ done. IfSome done.cell (λ cell. IsTrue (may_stand name.now cell))) }
-        ensures call { IsCall self.old self.new
-            (logged (self.old.calls + 1) name.now edit.now (hit edit.now name.now (get (content_of self.old) name.now)))
-            result }
+        ensures call { IsCall self.old self.new (changes_of self.old name.now edit.now) result }
     {
         if self.fails_next() {
             return Err(self.fail());
         }
+        self.calls += 1;
         Ok(self.apply(alloc, name, edit)?)
     }
 
-    /// Makes an edit in a call that doesn't fail.
+    /// Makes an edit in a call that is counted.
     fn apply(&mut self, alloc: Global, name: &Name, edit: &Edit) -> Result<Edited, OutOfMemory>
-        requires { self.old.calls < call_limit }
         ensures hit { IfOk result
             (λ done. done.hit ≡ is_some (hit edit.now name.now (get (content_of self.old) name.now))) }
         ensures after { IfOk result (λ done. done.cell ≡ get (content_of self.new) name.now) }
         ensures kind { IfOk result (λ done. IfSome done.cell (λ cell. IsTrue (may_stand name.now cell))) }
-        ensures told { OnOk result (self.new ≡ called self.old
-            (logged (self.old.calls + 1) name.now edit.now (hit edit.now name.now (get (content_of self.old) name.now)))) }
+        ensures told { OnOk result (self.new ≡ noted self.old
+            (logged self.old.calls name.now edit.now (hit edit.now name.now (get (content_of self.old) name.now)))) }
         ensures err { OnErr result (self.new ≡ self.old) }
-        ensures counted { IsCounted self.old }
     {
         match self.changed(alloc, name, edit)? {
             Changed::Missed => self.miss(alloc, name),
@@ -166,26 +164,21 @@ impl MemoryStore {
         ensures hit { IfOk result
             (λ changed. as_hit changed ≡ hit edit.now name.now (get (content_of self.now) name.now)) }
         ensures kind { IfOk result (λ changed. IsTrue (may_leave name.now (as_hit changed))) }
-        ensures counted { IsCounted self.now }
     {
         change(alloc, name, edit, places::look(&self.cells, name))
     }
 
-    /// Counts an edit that missed.
-    fn miss(&mut self, alloc: Global, name: &Name) -> Result<Edited, OutOfMemory>
-        requires { self.old.calls < call_limit }
+    /// What an edit that missed comes to.
+    fn miss(&self, alloc: Global, name: &Name) -> Result<Edited, OutOfMemory>
         ensures hit { IfOk result (λ done. done.hit ≡ false) }
-        ensures after { IfOk result (λ done. done.cell ≡ get (content_of self.new) name.now) }
+        ensures after { IfOk result (λ done. done.cell ≡ get (content_of self.now) name.now) }
         ensures kind { IfOk result (λ done. IfSome done.cell (λ cell. IsTrue (may_stand name.now cell))) }
-        ensures told { OnOk result (self.new ≡ called self.old []) }
-        ensures err { OnErr result (self.new ≡ self.old) }
     {
         let cell = places::copy_under(alloc, &self.cells, name)?;
-        self.calls += 1;
         Ok(Edited { hit: false, cell })
     }
 
-    /// Puts the cell that an edit makes under a name, and counts the call.
+    /// Puts the cell that an edit makes under a name.
     fn put(
         &mut self,
         alloc: Global,
@@ -193,50 +186,46 @@ impl MemoryStore {
         edit: &Edit,
         after: Cell,
     ) -> Result<Edited, OutOfMemory>
-        requires room { self.old.calls < call_limit }
         requires hits { hit edit.now name.now (get (content_of self.old) name.now) ≡ Some (Some after) }
         requires kind { IsTrue (may_stand name.now after) }
         ensures hit { IfOk result (λ done. done.hit ≡ true) }
         ensures after { IfOk result (λ done. done.cell ≡ get (content_of self.new) name.now) }
         ensures kind { IfOk result (λ done. IfSome done.cell (λ cell. IsTrue (may_stand name.now cell))) }
-        ensures told { OnOk result (self.new ≡ called self.old (logged (self.old.calls + 1) name.now edit.now (Some (Some after)))) }
+        ensures told { OnOk result (self.new ≡ noted self.old (logged self.old.calls name.now edit.now (Some (Some after)))) }
         ensures err { OnErr result (self.new ≡ self.old) }
     {
         let cell = write(
             alloc,
             &mut self.cells,
             &mut self.log,
-            self.calls + 1,
+            self.calls,
             name,
             edit,
             after,
         )?;
-        self.calls += 1;
         Ok(Edited {
             hit: true,
             cell: Some(cell),
         })
     }
 
-    /// Takes out the cell under a name, as an edit does, and counts the call.
+    /// Takes out the cell under a name, as an edit does.
     fn take_out(&mut self, alloc: Global, name: &Name, edit: &Edit) -> Result<Edited, OutOfMemory>
-        requires room { self.old.calls < call_limit }
         requires hits { hit edit.now name.now (get (content_of self.old) name.now) ≡ Some None }
         ensures hit { IfOk result (λ done. done.hit ≡ true) }
         ensures after { IfOk result (λ done. done.cell ≡ get (content_of self.new) name.now) }
         ensures kind { IfOk result (λ done. IfSome done.cell (λ cell. IsTrue (may_stand name.now cell))) }
-        ensures told { OnOk result (self.new ≡ called self.old (logged (self.old.calls + 1) name.now edit.now (Some None))) }
+        ensures told { OnOk result (self.new ≡ noted self.old (logged self.old.calls name.now edit.now (Some None))) }
         ensures err { OnErr result (self.new ≡ self.old) }
     {
         erase(
             alloc,
             &mut self.cells,
             &mut self.log,
-            self.calls + 1,
+            self.calls,
             name,
             edit,
         )?;
-        self.calls += 1;
         Ok(Edited {
             hit: true,
             cell: None,
@@ -246,7 +235,7 @@ impl MemoryStore {
 
 /// How many calls are counted once one has failed.
 fn counted_failure(calls: u64) -> u64
-    ensures count { result ≡ (if nat_le call_limit calls then calls else calls + 1) }
+    ensures count { result ≡ counted_call calls }
     ensures later { calls ≤ result }
 {
     if calls < CALL_LIMIT { calls + 1 } else { calls }

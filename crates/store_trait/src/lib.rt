@@ -1,4 +1,10 @@
 //! Cells under names, the edits of one cell, and the trait of a store that makes them.
+//!
+//! An edit changes its cell where its guard holds, and nothing else: what it makes of the cell is `hit`,
+//! by which both `hits` and `change` are stated. A call on a store (`Store`) that tells its content
+//! answers what that held, or the cell after an edit, and a refused call leaves it; the trail of contents
+//! goes on. On any store each call is counted, whatever it answers, and fails only where the count of
+//! faults rose.
 #![tactic(auto)]
 
 mod cell;

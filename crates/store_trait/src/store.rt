@@ -1,10 +1,10 @@
-ghost use Rattle.std.specs.Prelude.{◌≡◌, ℕ, Bool, IsTrue, Option, Some, OnOk, OnErr, IfOk, IfSome, is_some, option_map};
+ghost use Rattle.std.specs.Prelude.{◌≡◌, ◌≤◌, ℕ, Bool, IsTrue, Option, Some, OnOk, OnErr, IfOk, IfSome, IsErrOf, is_some, option_map};
 ghost use Rattle.std.specs.Option.{option_copied};
 ghost use Rattle.std.specs.FinMap.{get};
 ghost use Rattle.store_trait.specs.Names.{may_stand};
 ghost use Rattle.store_trait.specs.Contents.{Content, is_past, first_past, named};
 ghost use Rattle.store_trait.specs.Edits.{hit, edited, left};
-ghost use Rattle.store_trait.specs.Calls.{Exchange, Reads, Edits as EditsCell, Lists, OneCall};
+ghost use Rattle.store_trait.specs.Calls.{Exchange, Reads, Edits as EditsCell, Lists, OneCall, call_limit, counted_call};
 ghost use Rattle.store_trait.specs.declared.store.StoreError.TheVariants.{OutOfMemory};
 
 use crate::cell::{Cell, Named};
@@ -33,6 +33,9 @@ impl From<AllocError> for StoreError {
 /// tells is fixed by its type. `place` is the trail: the content after so many calls. `answered` is
 /// what a store says of a call, its arguments and its answer; each store picks it, so that the cause
 /// of an answer can be stated over a store that tells nothing too.
+///
+/// Each call of `read`, `edit` and `next` adds one to the count of calls, whatever it answers. Only a
+/// store that has made 2^63 calls answers `Failed` from then on, and adds none.
 pub trait Store {
     ghost tells: { Bool };
 
@@ -52,6 +55,8 @@ pub trait Store {
         ensures same { IsTrue tells → content self.new ≡ content self.old }
         ensures kind { IfOk result (λ found. IfSome found (λ cell. IsTrue (may_stand name.now cell))) }
         ensures call { OneCall tells content place calls faults self.old self.new result StoreError.Failed }
+        ensures counted { calls self.new ≡ counted_call (calls self.old) }
+        ensures spent { call_limit ≤ calls self.old → IsErrOf result StoreError.Failed }
         ensures answered { IfOk result (λ found. answered self.old (Reads name.now found) self.new) };
 
     /// Makes an edit where its guard holds, and answers the cell after the call in both cases.
@@ -63,6 +68,8 @@ pub trait Store {
         ensures left { IsTrue tells → OnErr result (left (content self.old) name.now edit.now (content self.new)) }
         ensures kind { IfOk result (λ done. IfSome done.cell (λ cell. IsTrue (may_stand name.now cell))) }
         ensures call { OneCall tells content place calls faults self.old self.new result StoreError.Failed }
+        ensures counted { calls self.new ≡ counted_call (calls self.old) }
+        ensures spent { call_limit ≤ calls self.old → IsErrOf result StoreError.Failed }
         ensures answered { IfOk result
             (λ done. answered self.old (EditsCell name.now edit.now done.hit done.cell) self.new) };
 
@@ -75,6 +82,8 @@ pub trait Store {
             (λ found. IfSome found (λ it. IsTrue (is_past (option_copied after.entry) it.name))) }
         ensures kind { IfOk result (λ found. IfSome found (λ it. IsTrue (may_stand it.name it.cell))) }
         ensures call { OneCall tells content place calls faults self.old self.new result StoreError.Failed }
+        ensures counted { calls self.new ≡ counted_call (calls self.old) }
+        ensures spent { call_limit ≤ calls self.old → IsErrOf result StoreError.Failed }
         ensures answered { IfOk result
             (λ found. answered self.old (Lists (option_copied after.entry) found) self.new) };
 

@@ -10,6 +10,7 @@ use Rattle.doc_value.specs.declared.value.Value.{Value}
 use Rattle.txn_key.specs.declared.id.Token.{Token}
 use Rattle.txn_key.specs.declared.id.TxnId.{TxnId}
 use Rattle.txn_key.specs.declared.key.Key.{Key}
+use Rattle.txn_record.specs.Chain.{has_room}
 use Rattle.txn_record.specs.Effects.{assertion_holds, change_fits}
 use Rattle.txn_record.specs.Revnos.{has_effect, is_within, number_after}
 use Rattle.txn_record.specs.States.{is_decided_state}
@@ -404,15 +405,25 @@ module _ (c : Content) (txn : Waiting) where
       }
 
 -- the number that was read is past the last, or it is not
-pub look_past : (c d : Content) (key copy : Key) (doc : DocCell) (n : ℕ) → d ≡ c → copy ≡ key → doc_at c key ≡ Some doc → n ≡ unsigned_abs doc.revno → last_revno < n → MayStop d (step.RevnoSpent copy)
-look_past c d key copy doc n same copied there is past = record {
+pub look_past : (c d : Content) (key copy : Key) (doc : DocCell) → d ≡ c → copy ≡ key → doc_at c key ≡ Some doc → last_revno < unsigned_abs doc.revno → MayStop d (step.RevnoSpent copy)
+look_past c d key copy doc same copied there past = record {
   doc = doc;
   there = (λ i. doc_at (same i) (copied i)) ∙ there;
-  past = subst (λ (k : ℕ). last_revno < k) is past;
+  past = past;
 }
 
-pub look_low : (revno : ℤ) (n : ℕ) → n ≡ unsigned_abs revno → n ≤ last_revno → unsigned_abs revno ≤ last_revno
-look_low revno n is low = subst (λ (k : ℕ). k ≤ last_revno) is low
+within : (n limit : ℕ) → true ≡ nat_le n limit → n ≤ limit
+within n limit is = grind (arith, nat_tests)
+
+beyond : (n limit : ℕ) → false ≡ nat_le n limit → limit < n
+beyond n limit is = grind (arith, nat_tests)
+
+-- a number at which a chain may begin, or may not
+pub look_low : (revno : ℤ) (room : Bool) → room ≡ has_room revno → room ≡ true → unsigned_abs revno ≤ last_revno
+look_low revno room is has = within (unsigned_abs revno) last_revno (sym has ∙ is)
+
+pub look_high : (revno : ℤ) (room : Bool) → room ≡ has_room revno → room ≡ false → last_revno < unsigned_abs revno
+look_high revno room is lacks = beyond (unsigned_abs revno) last_revno (sym lacks ∙ is)
 
 -- what a read of a document answers
 pub found_doc : (c : Content) (key : Key) (found : Option Cell) (error : StepError) (r : Result DocCell StepError) → found ≡ get c (name.Doc key) → r ≡ ok_or (option_and_then as_doc found) error → IfOk r (λ doc. doc_at c key ≡ Some doc)

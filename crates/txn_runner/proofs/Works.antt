@@ -1,5 +1,5 @@
 -- What the calls for one transaction make of a store: of one call, of none, and of one after another.
-use Rattle.std.proofs.Common.{◌≡◌, ℕ, ◌+◌, Bool, true, false, List, [], ◌∷◌, ◌++◌, ◌&&◌, Result, Ok, Err, IsErrOf, IsTrue, ◌⊎◌, inl, refl, sym, ap, ◌∙◌, subst}
+use Rattle.std.proofs.Common.{◌≡◌, ℕ, ◌+◌, Bool, true, false, List, [], ◌∷◌, ◌++◌, ◌&&◌, Result, Ok, Err, IsErrOf, IsTrue, ◌⊎◌, inl, inr, refl, sym, ap, ◌∙◌, subst, arith}
 use Rattle.std.specs.List.{list_all}
 use Rattle.std.proofs.lemmas.List.Folds.{list_all-append}
 use Rattle.txn_key.specs.declared.id.TxnId.{TxnId}
@@ -73,6 +73,17 @@ pub call_err : {S T U E : Type 0} (tells : Bool) (content : S → Content) (plac
 call_err {S} {T} {U} {E} tells content place calls faults old new result error failed is one =
     let o = subst (λ (r : Result T E). OneCall tells content place calls faults old new r failed) is one in
     record { trail = o.trail; counted = tt; counted_err = o.counted_err; later = o.later; fault = λ same. o.fault (ap Err (same_error error failed same)) }
+
+-- a step that is refused for memory before its call
+pub refused_idly : {S T : Type 0} (tells : Bool) (content : S → Content) (place : S → ℕ → Content) (calls faults : S → ℕ) (s : S)
+    → (IsTrue tells → place s (calls s) ≡ content s) → OneCall {T = T} tells content place calls faults s s (Err step.OutOfMemory) step.StoreFault
+refused_idly tells content place calls faults s present = record {
+  trail = λ told. record { before = λ n le. refl; here = present told };
+  counted = tt;
+  counted_err = inr refl;
+  later = omega arith;
+  fault = λ fails. absurd (cc fails);
+}
 
 pub store_refuses : {S : Type 0} (answered : S → Exchange → S → Type 0) (calls : S → ℕ) (old : S) (id : TxnId) (at : Name) (change : Edit) (new : S) (error : StepError) → IsOfStore error → IsMissed answered calls old id at change new error
 store_refuses answered calls old id at change new step.StoreFault h = tt

@@ -10,7 +10,7 @@ ghost use Rattle.txn_runner.specs.Causes.{AnsweredEdit, HasCause, IsMissed, IsOf
 
 use crate::error::StepError;
 use std::alloc::Global;
-use store_trait::{Cell, DocCell, Edit, Edited, Name, Store, StoreError, doc_in};
+use store_trait::{Cell, DocCell, Edit, Edited, Name, Store, doc_in};
 use txn_key::{Key, TxnId};
 
 /// An edit of the store.
@@ -29,11 +29,7 @@ pub fn edit<S: Store>(
     ensures answered { IfOk result (λ done. S.answered store.old (Edits name.now change.now done.hit done.cell) store.new) }
     ensures call { OneCall S.tells S.content S.place S.calls S.faults store.old store.new result StepError.StoreFault }
 {
-    match store.edit(alloc, name, change) {
-        Ok(done) => Ok(done),
-        Err(StoreError::Failed) => Err(StepError::StoreFault),
-        Err(StoreError::OutOfMemory) => Err(StepError::OutOfMemory),
-    }
+    Ok(store.edit(alloc, name, change)?)
 }
 
 /// The cell under a name.
@@ -44,11 +40,7 @@ pub fn read<S: Store>(alloc: Global, store: &mut S, name: &Name) -> Result<Optio
     ensures answered { IfOk result (λ found. S.answered store.old (Reads name.now found) store.new) }
     ensures call { OneCall S.tells S.content S.place S.calls S.faults store.old store.new result StepError.StoreFault }
 {
-    match store.read(alloc, name) {
-        Ok(found) => Ok(found),
-        Err(StoreError::Failed) => Err(StepError::StoreFault),
-        Err(StoreError::OutOfMemory) => Err(StepError::OutOfMemory),
-    }
+    Ok(store.read(alloc, name)?)
 }
 
 /// An edit that a store which holds what it was told can't miss: at a miss the record of that id and
@@ -67,10 +59,11 @@ pub fn must_hit<S: Store>(
     ensures cause { IfErr result (IsMissed S.answered S.calls store.old id name change store.new) }
     ensures call { OneCall S.tells S.content S.place S.calls S.faults store.old store.new result StepError.StoreFault }
 {
-    match edit(alloc, store, &name, &change) {
-        Ok(edited) if edited.hit => Ok(()),
-        Ok(_) => Err(StepError::Clash { id, at: name }),
-        Err(error) => Err(error),
+    let edited = edit(alloc, store, &name, &change)?;
+    if edited.hit {
+        Ok(())
+    } else {
+        Err(StepError::Clash { id, at: name })
     }
 }
 
@@ -89,10 +82,8 @@ pub fn may_hit<S: Store>(
     ensures kind { IfErr result IsOfStore }
     ensures call { OneCall S.tells S.content S.place S.calls S.faults store.old store.new result StepError.StoreFault }
 {
-    match edit(alloc, store, &name, &change) {
-        Ok(edited) => Ok(edited.hit),
-        Err(error) => Err(error),
-    }
+    let edited = edit(alloc, store, &name, &change)?;
+    Ok(edited.hit)
 }
 
 /// The document of a key. Where it is missing, the record of that id and the document disagree.
@@ -110,8 +101,6 @@ pub fn read_document<S: Store>(
     ensures call { OneCall S.tells S.content S.place S.calls S.faults store.old store.new result StepError.StoreFault }
 {
     let name = Name::Doc(key.copy(alloc)?);
-    match read(alloc, store, &name) {
-        Ok(found) => doc_in(found).ok_or(StepError::Clash { id, at: name }),
-        Err(error) => Err(error),
-    }
+    let found = read(alloc, store, &name)?;
+    doc_in(found).ok_or(StepError::Clash { id, at: name })
 }

@@ -11,7 +11,7 @@ ghost use Rattle.txn_runner.specs.Running.{OnlyReads};
 use crate::error::StepError;
 use std::alloc::Global;
 use store_laws::bodies_as_they_lie;
-use store_trait::{Cell, Name, Named, Store, StoreError};
+use store_trait::{Cell, Name, Named, Store};
 use txn_key::{Doc, Docs, TxnId, documents_rise};
 
 /// The documents, in the order of their keys.
@@ -57,11 +57,9 @@ fn next_listed<S: Store>(alloc: Global, store: &mut S, after: &Name) -> Result<N
     ensures kind { IfErr result IsOfStore }
     ensures call { OneCall S.tells S.content S.place S.calls S.faults store.old store.new result StepError.StoreFault }
 {
-    match store.next(alloc, Some(after)) {
-        Ok(None) => Ok(Next::End),
-        Ok(Some(named)) => Ok(into_next(named)),
-        Err(StoreError::Failed) => Err(StepError::StoreFault),
-        Err(StoreError::OutOfMemory) => Err(StepError::OutOfMemory),
+    match store.next(alloc, Some(after))? {
+        None => Ok(Next::End),
+        Some(named) => Ok(into_next(named)),
     }
 }
 

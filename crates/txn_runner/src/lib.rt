@@ -6,6 +6,7 @@
 //! (`settle#works`, `submit#works`).
 #![tactic(auto)]
 
+mod assertions;
 mod built;
 mod calls;
 mod documents;
@@ -13,7 +14,6 @@ mod error;
 mod settling;
 mod stage;
 mod steps;
-mod testing;
 mod waiting;
 
 pub use built::{is_built, only};

@@ -1,33 +1,32 @@
 //! The steps by which a transaction is settled, one stage after the other. Each makes one call on the
 //! store at most, and answers what is left to do after it.
 
-ghost use Rattle.std.specs.Prelude.{◌≡◌, ◌<◌, ℕ, List, [], ◌∷◌, true, false, None, IsTrue, IfOk, IfErr, OnOk};
+ghost use Rattle.std.specs.Prelude.{◌≡◌, ◌<◌, ℕ, List, [], ◌∷◌, true, false, None, IsTrue, IfOk, IfErr, OnOk, OnErr, is_some, ◌++◌};
+ghost use Rattle.std.specs.FinMap.{get};
+ghost use Rattle.store_trait.specs.Edits.{hit, edited};
 ghost use Rattle.store_trait.specs.Calls.{OneCall};
 ghost use Rattle.txn_record.specs.declared.entry.Entry.{Entry as LogEntry};
 ghost use Rattle.txn_record.specs.Revnos.{has_effect};
 ghost use Rattle.store_trait.specs.View.{record_at};
 ghost use Rattle.txn_runner.specs.Calm.{IsCalm};
-ghost use Rattle.txn_runner.specs.Causes.{HasCause, IsOfStore, LastShows, ShowsRepeated, drawn_of};
+ghost use Rattle.txn_runner.specs.Causes.{HasCause, IsMissed, IsOfStore, LastShows, ShowsRepeated, drawn_of};
 ghost use Rattle.txn_runner.specs.Settling.{IsWorth, WorksOn, ComesToStage, IsSubmitted, preparing_record};
 ghost use Rattle.txn_runner.specs.Built.{is_built, is_built_change, is_update, updates};
 ghost use Rattle.txn_runner.specs.Numbers.{Uses};
 ghost use Rattle.txn_runner.specs.Stages.{steps_left, suits, UsesUpTo};
 
+use crate::assertions::tests_hold;
 use crate::built::{only, update_of};
 use crate::calls::{edit, may_hit, must_hit, read_document};
 use crate::error::StepError;
 use crate::stage::Stage;
-use crate::testing::tests_hold;
 use crate::waiting::Waiting;
 use doc_value::OutOfMemory;
 use sqlite_items::Items;
 use std::alloc::Global;
 use store_trait::{Edit, Name, Store, counter_in};
 use txn_key::{Token, TxnId};
-use txn_record::{Change, Entry, Op, Outcome, Record, State};
-
-/// The greatest absolute value of a revision number at which a chain may begin.
-const LAST_REVNO: u64 = 4_611_686_018_427_386_903;
+use txn_record::{Change, Entry, Op, Outcome, Record, State, has_room};
 
 /// The counter of nonces at which none is left.
 const LAST_COUNTER: u32 = u32::MAX;
@@ -120,10 +119,8 @@ pub fn queue<S: Store>(
     let id = txn.id;
     let name = Name::Doc(only(&txn.ops).key.copy(alloc)?);
     let token = Token { id, nonce };
-    match must_hit(alloc, store, id, name, Edit::AddToken { token }) {
-        Ok(()) => Ok(Stage::Prepare { nonce }),
-        Err(error) => Err(error),
-    }
+    must_hit(alloc, store, id, name, Edit::AddToken { token })?;
+    Ok(Stage::Prepare { nonce })
 }
 
 /// Moves the transaction's record to prepared.
@@ -149,10 +146,8 @@ pub fn prepare<S: Store>(
         nonce: Some(nonce),
         revnos: None,
     };
-    match must_hit(alloc, store, txn.id, Name::Record(txn.id), change) {
-        Ok(()) => Ok(Stage::Look { nonce }),
-        Err(error) => Err(error),
-    }
+    must_hit(alloc, store, txn.id, Name::Record(txn.id), change)?;
+    Ok(Stage::Look { nonce })
 }
 
 /// Reads the transaction's document: its number, and whether the transaction's tests hold there.
@@ -175,14 +170,15 @@ pub fn look<S: Store>(
 {
     let op = only(&txn.ops);
     let key = op.key.copy(alloc)?;
-    match read_document(alloc, store, txn.id, &op.key) {
-        Ok(doc) if doc.revno.unsigned_abs() > LAST_REVNO => Err(StepError::RevnoSpent { key }),
-        Ok(doc) => Ok(Stage::Decide {
+    let doc = read_document(alloc, store, txn.id, &op.key)?;
+    if has_room(doc.revno) {
+        Ok(Stage::Decide {
             nonce,
             revno: doc.revno,
             holds: tests_hold(op, &doc.body),
-        }),
-        Err(error) => Err(error),
+        })
+    } else {
+        Err(StepError::RevnoSpent { key })
     }
 }
 
@@ -209,14 +205,14 @@ pub fn decide<S: Store>(
     ensures call { OneCall S.tells S.content S.place S.calls S.faults store.old store.new result StepError.StoreFault }
 {
     if holds {
-        apply(alloc, store, order, txn, nonce, revno)
+        decide_to_apply(alloc, store, order, txn, nonce, revno)
     } else {
-        give_up(alloc, store, order, txn, nonce, revno)
+        decide_to_abort(alloc, store, order, txn, nonce, revno)
     }
 }
 
 /// Its tests hold: its record starts to apply, with the number that its operation found.
-fn apply<S: Store>(
+fn decide_to_apply<S: Store>(
     alloc: Global,
     store: &mut S,
     order: &mut Vec<Entry>,
@@ -236,24 +232,14 @@ fn apply<S: Store>(
     ensures call { OneCall S.tells S.content S.place S.calls S.faults store.old store.new result StepError.StoreFault }
 {
     let revnos = Items::from_slice(alloc, &[revno])?;
-    let mut entry = entry_of(alloc, txn, Outcome::Applied, &[revno])?;
-    order.reserve(1)?;
     let change = Edit::Move {
         from: State::Prepared,
         to: State::Applying,
         nonce: None,
         revnos: Some(revnos),
     };
-    match must_hit(alloc, store, txn.id, Name::Record(txn.id), change) {
-        Ok(()) => {
-            entry.at = store.calls();
-            match order.push(entry) {
-                Ok(()) => Ok(after_decision(only(&txn.ops), nonce, revno)),
-                Err(_) => unreachable!(),
-            }
-        }
-        Err(error) => Err(error),
-    }
+    record_decision(alloc, store, order, txn, change, Outcome::Applied, &[revno])?;
+    Ok(after_decision(only(&txn.ops), nonce, revno))
 }
 
 /// What is left to do for a transaction that applies: its update, where its operation makes one.
@@ -271,7 +257,7 @@ fn after_decision(op: &Op, nonce: u32, revno: i64) -> Stage
 }
 
 /// A test fails: its record is to be aborted.
-fn give_up<S: Store>(
+fn decide_to_abort<S: Store>(
     alloc: Global,
     store: &mut S,
     order: &mut Vec<Entry>,
@@ -289,23 +275,45 @@ fn give_up<S: Store>(
     ensures cause { IfErr result (HasCause S.answered S.calls store.old store.new txn.now.id) }
     ensures call { OneCall S.tells S.content S.place S.calls S.faults store.old store.new result StepError.StoreFault }
 {
-    let mut entry = entry_of(alloc, txn, Outcome::Aborted, &[])?;
-    order.reserve(1)?;
     let change = Edit::Move {
         from: State::Prepared,
         to: State::Aborting,
         nonce: None,
         revnos: None,
     };
-    match must_hit(alloc, store, txn.id, Name::Record(txn.id), change) {
-        Ok(()) => {
-            entry.at = store.calls();
-            match order.push(entry) {
-                Ok(()) => Ok(Stage::Abort),
-                Err(_) => unreachable!(),
-            }
-        }
-        Err(error) => Err(error),
+    record_decision(alloc, store, order, txn, change, Outcome::Aborted, &[])?;
+    Ok(Stage::Abort)
+}
+
+/// Moves a transaction's record by the call that decides it, and adds the decision to the order. Memory
+/// is taken first, so that no decision is missing there.
+fn record_decision<S: Store>(
+    alloc: Global,
+    store: &mut S,
+    order: &mut Vec<Entry>,
+    txn: &Waiting,
+    change: Edit,
+    outcome: Outcome,
+    revnos: &[i64],
+) -> Result<(), StepError>
+    ensures made { IsTrue S.tells → OnOk result (S.content store.new ≡ edited (S.content store.old) (Name.Record txn.now.id) change) }
+    ensures added { OnOk result (order.new.items ≡ order.old.items
+        ++ record { id = txn.now.id; ops = txn.now.ops; outcome = outcome; revnos = revnos.now; at = S.calls store.new } ∷ []) }
+    ensures kept { OnErr result (order.new.items ≡ order.old.items) }
+    ensures left { IsTrue S.tells → is_some (hit change (Name.Record txn.now.id) (get (S.content store.old) (Name.Record txn.now.id))) ≡ true →
+        OnErr result (S.content store.new ≡ S.content store.old) }
+    ensures never { IsTrue S.tells → is_some (hit change (Name.Record txn.now.id) (get (S.content store.old) (Name.Record txn.now.id))) ≡ true →
+        IfErr result IsOfStore }
+    ensures cause { IfErr result (IsMissed S.answered S.calls store.old txn.now.id (Name.Record txn.now.id) change store.new) }
+    ensures call { OneCall S.tells S.content S.place S.calls S.faults store.old store.new result StepError.StoreFault }
+{
+    let mut entry = entry_of(alloc, txn, outcome, revnos)?;
+    order.reserve(1)?;
+    must_hit(alloc, store, txn.id, Name::Record(txn.id), change)?;
+    entry.at = store.calls();
+    match order.push(entry) {
+        Ok(()) => Ok(()),
+        Err(_) => unreachable!(),
     }
 }
 
@@ -358,10 +366,8 @@ pub fn update<S: Store>(
         token,
         update,
     };
-    match may_hit(alloc, store, name, change) {
-        Ok(_) => Ok(Stage::Finish),
-        Err(error) => Err(error),
-    }
+    may_hit(alloc, store, name, change)?;
+    Ok(Stage::Finish)
 }
 
 /// Moves the transaction's record to applied.
@@ -382,10 +388,8 @@ pub fn finish<S: Store>(alloc: Global, store: &mut S, txn: &Waiting) -> Result<S
         nonce: None,
         revnos: None,
     };
-    match must_hit(alloc, store, txn.id, Name::Record(txn.id), change) {
-        Ok(()) => Ok(Stage::Settled(Outcome::Applied)),
-        Err(error) => Err(error),
-    }
+    must_hit(alloc, store, txn.id, Name::Record(txn.id), change)?;
+    Ok(Stage::Settled(Outcome::Applied))
 }
 
 /// Moves the transaction's record to aborted.
@@ -406,8 +410,6 @@ pub fn abort<S: Store>(alloc: Global, store: &mut S, txn: &Waiting) -> Result<St
         nonce: None,
         revnos: None,
     };
-    match must_hit(alloc, store, txn.id, Name::Record(txn.id), change) {
-        Ok(()) => Ok(Stage::Settled(Outcome::Aborted)),
-        Err(error) => Err(error),
-    }
+    must_hit(alloc, store, txn.id, Name::Record(txn.id), change)?;
+    Ok(Stage::Settled(Outcome::Aborted))
 }

@@ -1,3 +1,4 @@
+use Rattle.std.proofs.lemmas.Result.{err_from_is_err_and}
 use Rattle.store_trait.specs.Readiness.{token}
 use Rattle.txn_runner.proofs.Beside.{add_others}
 use Rattle.txn_runner.proofs.Works.{works_edited, works_idly, comes_edited, comes_to_nothing}
@@ -6,23 +7,23 @@ use Rattle.txn_runner.proofs.Numbers.{uses_within, uses_same, uses_made, uses_ad
 use Rattle.std.proofs.Common.{arith}
 use Rattle.txn_runner.proofs.steps.queue.Goals as goal
 
-pub returns-in-Ok-clause-works : goal.returns-in-Ok-clause-works
-returns-in-Ok-clause-works g c = λ told order.
-    works_edited _ _ _ _ _ _ _ _ _ told (g.met.S.Store.present _ told) c.must_hit.ensures.call _ _ (rw c.in_ok-copy.ensures at (c.in-Ok.ensures.made told)) (queue_quietly _ _ _ c.only.ensures.only _ (c.requires.worth told)) (add_others _ _ _ (token c.args.txn.now.id c.args.nonce)) order
+pub returns-clause-works : goal.returns-clause-works
+returns-clause-works g c = λ told order.
+    works_edited _ _ _ _ _ _ _ _ _ told (g.met.S.Store.present _ told) c.must_hit.ensures.call _ _ (rw c.in_ok-copy.ensures at (c.in_ok-must_hit.ensures.made told)) (queue_quietly _ _ _ c.only.ensures.only _ (c.requires.worth told)) (add_others _ _ _ (token c.args.txn.now.id c.args.nonce)) order
 
-pub returns-in-Ok-clause-comes : goal.returns-in-Ok-clause-comes
-returns-in-Ok-clause-comes g c = λ told.
-    comes_edited _ _ _ _ (rw c.in_ok-copy.ensures at (c.in-Ok.ensures.made told)) (queue_worth _ _ _ c.only.ensures.only _ (c.requires.worth told))
+pub returns-clause-comes : goal.returns-clause-comes
+returns-clause-comes g c = λ told.
+    comes_edited _ _ _ _ (rw c.in_ok-copy.ensures at (c.in_ok-must_hit.ensures.made told)) (queue_worth _ _ _ c.only.ensures.only _ (c.requires.worth told))
 
-pub returns-in-Err-clause-works : goal.returns-in-Err-clause-works
-returns-in-Err-clause-works g c = λ told order.
-    works_idly _ _ _ _ _ _ _ _ _ told (g.met.S.Store.present _ told) c.must_hit.ensures.call _ order (c.requires.worth told).sound (c.in-Err.ensures.left told (rw c.in_ok-copy.ensures (queue_hits _ _ _ c.only.ensures.only _ (c.requires.worth told))))
+pub returns-in_err-must_hit-clause-works : goal.returns-in_err-must_hit-clause-works
+returns-in_err-must_hit-clause-works g c = λ told order.
+    works_idly _ _ _ _ _ _ _ _ _ told (g.met.S.Store.present _ told) c.must_hit.ensures.call _ order (c.requires.worth told).sound (c.in_err-must_hit.ensures.left told (rw c.in_ok-copy.ensures (queue_hits _ _ _ c.only.ensures.only _ (c.requires.worth told))))
 
-pub returns-in-Err-clause-comes : goal.returns-in-Err-clause-comes
-returns-in-Err-clause-comes g c = λ told. comes_to_nothing _ _ _ (c.in-Err.ensures.never told (rw c.in_ok-copy.ensures (queue_hits _ _ _ c.only.ensures.only _ (c.requires.worth told))))
+pub returns-in_err-must_hit-clause-comes : goal.returns-in_err-must_hit-clause-comes
+returns-in_err-must_hit-clause-comes g c = λ told. let p = err_from_is_err_and c.from_residual-in_err-must_hit.result c.from_residual-in_err-must_hit.ensures.1 in rw (p.1, p.2) (comes_to_nothing _ _ _ (c.in_err-must_hit.ensures.never told (rw c.in_ok-copy.ensures (queue_hits _ _ _ c.only.ensures.only _ (c.requires.worth told)))))
 
-pub returns-in-Ok-clause-uses : goal.returns-in-Ok-clause-uses
-returns-in-Ok-clause-uses g c = λ told. uses_within (uses_made (rw c.in_ok-copy.ensures at (c.in-Ok.ensures.made told)) (uses_add _ _ (token c.args.txn.now.id c.args.nonce))) (omega arith) (omega arith)
+pub returns-clause-uses : goal.returns-clause-uses
+returns-clause-uses g c = λ told. uses_within (uses_made (rw c.in_ok-copy.ensures at (c.in_ok-must_hit.ensures.made told)) (uses_add _ _ (token c.args.txn.now.id c.args.nonce))) (omega arith) (omega arith)
 
-pub returns-in-Err-clause-uses : goal.returns-in-Err-clause-uses
-returns-in-Err-clause-uses g c = λ told. uses_within (uses_same _ _ (c.in-Err.ensures.left told (rw c.in_ok-copy.ensures (queue_hits _ _ _ c.only.ensures.only _ (c.requires.worth told))))) (omega arith) (omega arith)
+pub returns-in_err-must_hit-clause-uses : goal.returns-in_err-must_hit-clause-uses
+returns-in_err-must_hit-clause-uses g c = λ told. let p = err_from_is_err_and c.from_residual-in_err-must_hit.result c.from_residual-in_err-must_hit.ensures.1 in rw p.1 (uses_within (uses_same _ _ (c.in_err-must_hit.ensures.left told (rw c.in_ok-copy.ensures (queue_hits _ _ _ c.only.ensures.only _ (c.requires.worth told))))) (omega arith) (omega arith))

@@ -8,7 +8,7 @@ use Rattle.store_trait.specs.Edits.{hit}
 use Rattle.store_trait.specs.Changes.{as_hit}
 use Rattle.store_trait.specs.declared.cell.Cell.{Cell}
 use Rattle.store_trait.proofs.HitKinds.{hit_may_leave}
-use Rattle.store_memory.specs.Told.{Told, content_of, IsCounted}
+use Rattle.store_memory.specs.Told.{Told, content_of}
 use Rattle.store_memory.proofs.Keeping.{told_of, in_order, found_there, kind_there, held_kind, left_kind}
 use Rattle.store_memory.proofs.memory.MemoryStore.changed.Goals as goal
 
@@ -27,6 +27,3 @@ returns-clause-kind c =
     let found = option_copied c.look.result in
     let kind = kind_there c.self.inside.cells.items (told_of c.self.inside.log.items c.self.inside.fails.items c.self.inside.calls c.self.inside.faults) name found c.self.invariant (c.look.ensures ∙ ap (value_of name_cmp name) c.deref.ensures.value) in
     left_kind name c.change.result (hit c.args.edit.now name found) c.change.ensures (hit_may_leave c.args.edit.now name found (held_kind name found kind))
-
-pub returns-clause-counted : goal.returns-clause-counted
-returns-clause-counted c = subst IsCounted c.self.view_is c.self.invariant.counted

@@ -13,6 +13,9 @@ copy_under-requires c = ap (is_sorted name_cmp) c.deref.ensures.value ∙ in_ord
 pub invariant_of-self : goal.invariant_of-self
 invariant_of-self c = kept_later c.self.inside.cells.items c.self.inside.log.items c.self.inside.fails.items c.self.inside.calls c.self.inside.faults _ _ c.self.invariant (omega arith) c.self.invariant.counted.faults
 
+pub invariant_of-self-2 : goal.invariant_of-self-2
+invariant_of-self-2 c = kept_later c.self.inside.cells.items c.self.inside.log.items c.self.inside.fails.items c.self.inside.calls c.self.inside.faults _ _ c.self.invariant (omega arith) c.self.invariant.counted.faults
+
 pub returns-clause-found : goal.returns-clause-found
 returns-clause-found c =
     let name = c.args.name.now in

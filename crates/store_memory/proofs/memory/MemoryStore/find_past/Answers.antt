@@ -12,6 +12,9 @@ copy_past-requires c = ap (is_sorted name_cmp) c.deref.ensures.value ∙ in_orde
 pub invariant_of-self : goal.invariant_of-self
 invariant_of-self c = kept_later c.self.inside.cells.items c.self.inside.log.items c.self.inside.fails.items c.self.inside.calls c.self.inside.faults _ _ c.self.invariant (omega arith) c.self.invariant.counted.faults
 
+pub invariant_of-self-2 : goal.invariant_of-self-2
+invariant_of-self-2 c = kept_later c.self.inside.cells.items c.self.inside.log.items c.self.inside.fails.items c.self.inside.calls c.self.inside.faults _ _ c.self.invariant (omega arith) c.self.invariant.counted.faults
+
 pub returns-clause-past : goal.returns-clause-past
 returns-clause-past c = past_there (option_copied c.args.after) c.deref.result.now c.in_ok-found.found c.in_ok-found.ensures
 

@@ -1,4 +1,4 @@
-use Rattle.std.proofs.Common.{◌+◌, Some, sym, ap, ◌∙◌}
+use Rattle.std.proofs.Common.{Some, sym, ap, ◌∙◌}
 use Rattle.std.specs.FinMap.{get}
 use Rattle.store_trait.specs.Edits.{hit}
 use Rattle.store_memory.specs.Told.{Told, content_of}
@@ -19,4 +19,4 @@ returns-clause-after c =
     let it = c.self.inside in
     let hits = ap (λ (t : Told). hit c.args.edit.now c.args.name.now (get (content_of t) c.args.name.now)) c.self.view_is ∙ c.requires.hits in
     let kept = kept_put it.cells.items c.write.new.cells.items it.log.items c.write.new.log.items it.fails.items it.calls it.faults c.args.name.now c.args.edit.now c.args.after c.self.invariant c.requires.kind hits c.in_ok-cell.ensures.cells c.in_ok-cell.ensures.log in
-    ap Some c.in_ok-cell.ensures.answer ∙ sym (put_found it.cells.items c.write.new.cells.items (told_of c.write.new.log.items it.fails.items (it.calls + 1) it.faults) c.args.name.now c.args.after kept c.in_ok-cell.ensures.cells)
+    ap Some c.in_ok-cell.ensures.answer ∙ sym (put_found it.cells.items c.write.new.cells.items (told_of c.write.new.log.items it.fails.items it.calls it.faults) c.args.name.now c.args.after kept c.in_ok-cell.ensures.cells)

@@ -1,4 +1,4 @@
-use Rattle.store_memory.proofs.CallLaws.{edit_call, edit_ok, edit_err}
+use Rattle.store_memory.proofs.CallLaws.{edit_call, edit_ok, edit_err, call_counted, call_spent}
 use Rattle.store_memory.proofs.store.MemoryStoreStore.edit.Goals as goal
 
 pub returns-clause-made : goal.returns-clause-made
@@ -12,3 +12,9 @@ returns-clause-call c = edit_call c.args.self.now _ c.args.name.now c.args.edit.
 
 pub returns-clause-failed : goal.returns-clause-failed
 returns-clause-failed c = c.make.ensures.call.fails
+
+pub returns-clause-counted : goal.returns-clause-counted
+returns-clause-counted c = call_counted _ _ _ c.make.result c.make.ensures.call
+
+pub returns-clause-spent : goal.returns-clause-spent
+returns-clause-spent c = call_spent _ _ _ c.make.result c.make.ensures.call

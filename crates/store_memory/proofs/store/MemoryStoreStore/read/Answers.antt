@@ -1,4 +1,4 @@
-use Rattle.store_memory.proofs.CallLaws.{reads_call, reads_same}
+use Rattle.store_memory.proofs.CallLaws.{reads_call, reads_same, call_counted, call_spent}
 use Rattle.store_memory.proofs.store.MemoryStoreStore.read.Goals as goal
 
 pub returns-clause-same : goal.returns-clause-same
@@ -9,3 +9,9 @@ returns-clause-call c = reads_call _ _ c.find.result c.find.ensures.call
 
 pub returns-clause-failed : goal.returns-clause-failed
 returns-clause-failed c = c.find.ensures.call.fails
+
+pub returns-clause-counted : goal.returns-clause-counted
+returns-clause-counted c = call_counted _ _ _ c.find.result c.find.ensures.call
+
+pub returns-clause-spent : goal.returns-clause-spent
+returns-clause-spent c = call_spent _ _ _ c.find.result c.find.ensures.call
