@@ -6,7 +6,7 @@ use Rattle.store_trait.specs.Contents.{Content}
 use Rattle.store_trait.specs.Meaning.{meaning}
 use Rattle.store_trait.specs.Soundness.{IsSound}
 use Rattle.txn_cli.specs.Batches.{MayRun, WorksOnBatch, IsDoneWith}
-use Rattle.txn_cli.specs.Leaving.{HasBegun, HasLeft, Stays}
+use Rattle.txn_cli.specs.Leaving.{HasBegun, HasLeft, LeavesUnfinished, Stays}
 use Rattle.txn_cli.specs.Play.{RanBatch, HasRunBatch}
 use Rattle.txn_cli.specs.Refusals.{IsOfRun}
 use Rattle.txn_cli.specs.declared.fault.Fault.{Fault}
@@ -27,16 +27,16 @@ if_ok (Ok x) P Q h f = f x h
 if_ok (Err e) P Q h f = tt
 
 -- a batch that is on its way, as a refusal leaves it
-begun_left : (old : Content) (waiting : List Waiting) (before : List Run) (new : Content) (place : ℕ → Content) (after : List Run) (f : Fault) → IsOfRun f → HasBegun old waiting before new place after → HasLeft true old waiting before new place after f
-begun_left old waiting before new place after fault.Store kind h = inr (refl, h)
-begun_left old waiting before new place after fault.OutOfMemory kind h = inr (refl, h)
-begun_left old waiting before new place after (fault.Spent e) kind h = inr (refl, h)
-begun_left old waiting before new place after (fault.Broken e) kind h = inr (refl, h)
-begun_left old waiting before new place after (fault.Repeated id) kind h = inr (refl, h)
-begun_left old waiting before new place after fault.Words kind h = elim kind [ ]
-begun_left old waiting before new place after (fault.Line number text) kind h = elim kind [ ]
-begun_left old waiting before new place after fault.Input kind h = elim kind [ ]
-begun_left old waiting before new place after fault.Output kind h = elim kind [ ]
+begun_left : (old : Content) (waiting : List Waiting) (before : List Run) (new : Content) (place : ℕ → Content) (after : List Run) (f : Fault) → IsOfRun f → HasBegun old waiting before new place after → LeavesUnfinished new waiting f → HasLeft true old waiting before new place after f
+begun_left old waiting before new place after fault.Store kind h un = inr (refl, h, un)
+begun_left old waiting before new place after fault.OutOfMemory kind h un = inr (refl, h)
+begun_left old waiting before new place after (fault.Spent e) kind h un = inr (refl, h, un)
+begun_left old waiting before new place after (fault.Broken e) kind h un = inr (refl, h, un)
+begun_left old waiting before new place after (fault.Repeated id) kind h un = inr (refl, h, un)
+begun_left old waiting before new place after fault.Words kind h un = elim kind [ ]
+begun_left old waiting before new place after (fault.Line number text) kind h un = elim kind [ ]
+begun_left old waiting before new place after fault.Input kind h un = elim kind [ ]
+begun_left old waiting before new place after fault.Output kind h un = elim kind [ ]
 
 -- a refusal before it
 pub stays_left : (may_run : Bool) (old : Content) (waiting : List Waiting) (before : List Run) (new : Content) (place : ℕ → Content) (after : List Run) (f : Fault) → IsOfRun f → Stays old before new after → HasLeft may_run old waiting before new place after f
@@ -85,13 +85,13 @@ module _ {S : Type 0} (tells : Bool) (content : S → Content) (place : S → �
     kept = kept;
   }
 
-  pub batch_left : {T : Type 0} (result : Result T Fault) (before after : List Run) → after ≡ before ++ run ∷ [] → IfErr result IsOfRun → IfErr result (HasLeft true (content old) waiting before (content now) (place now) after)
-  batch_left (Ok x) before after kept kind = tt
-  batch_left (Err f) before after kept kind = begun_left (content old) waiting before (content now) (place now) after f kind (record {
+  pub batch_left : {T : Type 0} (result : Result T Fault) (before after : List Run) → after ≡ before ++ run ∷ [] → IfErr result IsOfRun → IfErr result (LeavesUnfinished (content now) waiting) → IfErr result (HasLeft true (content old) waiting before (content now) (place now) after)
+  batch_left (Ok x) before after kept kind un = tt
+  batch_left (Err f) before after kept kind un = begun_left (content old) waiting before (content now) (place now) after f kind (record {
     run = run;
     kept = kept;
     opens = still_there ∙ reads.same;
     base = base ∙ ap meaning reads.same;
     only = works.decided refl;
     others = λ id none. works.others.records id none ∙ ap (λ (c : Content). record_at c id) reads.same;
-  })
+  }) un

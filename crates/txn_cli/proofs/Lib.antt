@@ -13,3 +13,4 @@ pub mod Caused
 pub mod Coming
 pub mod Completing
 pub mod LineSteps
+pub mod Unfinished

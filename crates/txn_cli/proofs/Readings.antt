@@ -94,16 +94,20 @@ is_output (fault.Repeated id) = inr (λ e. cc)
 
 module _ (script : List ℕ) (done : ℕ) (last : Progress) (content : Content) (place : ℕ → Content) (runs : List Run) where
   -- want of memory leaves what any other refusal may leave
+  begun_any : (may_run : Bool) {A B C : Type 0} → A ⊎ ((may_run ≡ true) × B × C) → A ⊎ ((may_run ≡ true) × B)
+  begun_any may_run (inl stays) = inl stays
+  begun_any may_run (inr begun) = inr (begun.0, begun.1)
+
   leaves_memory : (why : Fault) → Leaves script done last content place runs why → Leaves script done last content place runs fault.OutOfMemory
   leaves_memory fault.Output h = elim h.left [ ]
   leaves_memory fault.OutOfMemory h = h
   leaves_memory fault.Words h = record { next = tt; left = inl h.left }
   leaves_memory (fault.Line number text) h = record { next = tt; left = inl h.left }
-  leaves_memory fault.Store h = record { next = tt; left = h.left }
+  leaves_memory fault.Store h = record { next = tt; left = begun_any (next_may_run (next_of done script)) h.left }
   leaves_memory fault.Input h = record { next = tt; left = inl h.left }
-  leaves_memory (fault.Spent error) h = record { next = tt; left = h.left }
-  leaves_memory (fault.Broken error) h = record { next = tt; left = h.left }
-  leaves_memory (fault.Repeated id) h = record { next = tt; left = h.left }
+  leaves_memory (fault.Spent error) h = record { next = tt; left = begun_any (next_may_run (next_of done script)) h.left }
+  leaves_memory (fault.Broken error) h = record { next = tt; left = begun_any (next_may_run (next_of done script)) h.left }
+  leaves_memory (fault.Repeated id) h = record { next = tt; left = begun_any (next_may_run (next_of done script)) h.left }
 
   module _ (sink_tells : Bool) (before written : List ℕ) where
     stops_other : (why : Fault) → why ≢ fault.Output → StopsWith script done last content place runs sink_tells before written why → Leaves script done last content place runs why × (IsTrue sink_tells → written ≡ before)
@@ -233,11 +237,11 @@ left_more a b old waiting before new place after fault.Output more h = elim h [ 
 left_more a b old waiting before new place after fault.Words more h = h
 left_more a b old waiting before new place after (fault.Line number text) more h = h
 left_more a b old waiting before new place after fault.Input more h = h
-left_more a b old waiting before new place after fault.Store more h = ⊎_elim inl (λ begun. inr (more begun.0, begun.1)) h
+left_more a b old waiting before new place after fault.Store more h = ⊎_elim inl (λ begun. inr (more begun.0, begun.1, begun.2)) h
 left_more a b old waiting before new place after fault.OutOfMemory more h = ⊎_elim inl (λ begun. inr (more begun.0, begun.1)) h
-left_more a b old waiting before new place after (fault.Spent e) more h = ⊎_elim inl (λ begun. inr (more begun.0, begun.1)) h
-left_more a b old waiting before new place after (fault.Broken e) more h = ⊎_elim inl (λ begun. inr (more begun.0, begun.1)) h
-left_more a b old waiting before new place after (fault.Repeated id) more h = ⊎_elim inl (λ begun. inr (more begun.0, begun.1)) h
+left_more a b old waiting before new place after (fault.Spent e) more h = ⊎_elim inl (λ begun. inr (more begun.0, begun.1, begun.2)) h
+left_more a b old waiting before new place after (fault.Broken e) more h = ⊎_elim inl (λ begun. inr (more begun.0, begun.1, begun.2)) h
+left_more a b old waiting before new place after (fault.Repeated id) more h = ⊎_elim inl (λ begun. inr (more begun.0, begun.1, begun.2)) h
 
 -- ---- from line to line
 

@@ -15,6 +15,7 @@ use Rattle.txn_cli.specs.Play.{Progress, Refuses, next_of}
 use Rattle.txn_cli.specs.declared.done.Run.{Run}
 use Rattle.txn_cli.specs.declared.fault.Fault.{Fault}
 use Rattle.txn_cli.specs.declared.fault.Fault.TheVariants as fault
+use Rattle.txn_runner.specs.Settling.{has_ended}
 use Rattle.txn_runner.specs.declared.waiting.Waiting.{Waiting}
 
 -- the store holds what it held, and the Runs are those that there were
@@ -31,6 +32,15 @@ pub record HasBegun (old : Content) (waiting : List Waiting) (before : List Run)
   pub base : run.base ≡ meaning old
   pub only : list_all (λ entry. waits waiting entry.id) run.order ≡ true
   pub others : (id : TxnId) → waits waiting id ≡ false → record_at new id ≡ record_at old id
+
+-- some transaction of the batch hasn't come to its end
+abbrev pub IsUnfinished : Content → List Waiting → Type 0
+IsUnfinished c waiting = list_all (λ txn. has_ended c txn.id) waiting ≡ false
+
+-- the same, unless memory was wanting
+abbrev pub LeavesUnfinished : Content → List Waiting → Fault → Type 0
+LeavesUnfinished c waiting fault.OutOfMemory = Unit {0}
+LeavesUnfinished c waiting _ = IsUnfinished c waiting
 
 -- whether a statement runs the batch
 abbrev pub runs_batch : Statement → Bool
@@ -54,13 +64,15 @@ next_may_run (Ok (Some line)) = line_may_run (line_in line)
 next_may_run (Err _) = false
 
 -- What a refusal leaves. The refusal of a line, of the words or by the input leaves all as it was; so does
--- any other one, unless a batch was on its way. (By the output: see where it is said what was written.)
+-- any other one, unless a batch was on its way, and unfinished: memory alone may be wanting behind one that
+-- was finished. (By the output: see where it is said what was written.)
 abbrev pub HasLeft : Bool → Content → List Waiting → List Run → Content → (ℕ → Content) → List Run → Fault → Type 0
 HasLeft may_run old waiting before new place after (fault.Line _ _) = Stays old before new after
 HasLeft may_run old waiting before new place after fault.Words = Stays old before new after
 HasLeft may_run old waiting before new place after fault.Input = Stays old before new after
 HasLeft may_run old waiting before new place after fault.Output = ⊥
-HasLeft may_run old waiting before new place after _ = Stays old before new after ⊎ ((may_run ≡ true) × HasBegun old waiting before new place after)
+HasLeft may_run old waiting before new place after fault.OutOfMemory = Stays old before new after ⊎ ((may_run ≡ true) × HasBegun old waiting before new place after)
+HasLeft may_run old waiting before new place after _ = Stays old before new after ⊎ ((may_run ≡ true) × HasBegun old waiting before new place after × IsUnfinished new waiting)
 
 -- The refusal of a line names the next one, and the text by which it is refused there; bad words come
 -- before any line.

@@ -8,3 +8,4 @@ pub mod Numbers
 pub mod Answered
 pub mod Listed
 pub mod OnlyReading
+pub mod Unended

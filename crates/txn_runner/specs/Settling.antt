@@ -1,5 +1,5 @@
 -- What a runner knows of the transaction that it settles, from stage to stage.
-use Rattle.std.specs.Prelude.{◌≡◌, ◌≢◌, ◌<◌, ◌≤◌, ℕ, ℤ, Bool, true, List, [], ◌∷◌, Option, Some, None, Result, IfOk, IfErr, unsigned_abs}
+use Rattle.std.specs.Prelude.{◌≡◌, ◌≢◌, ◌<◌, ◌≤◌, ℕ, ℤ, Bool, true, false, List, [], ◌∷◌, Option, Some, None, Result, IfOk, IfErr, unsigned_abs}
 use Rattle.std.specs.List.{list_all}
 use Rattle.txn_key.specs.declared.id.TxnId.{TxnId}
 use Rattle.txn_key.specs.declared.key.Key.{Key}
@@ -44,6 +44,22 @@ preparing_record txn = stored txn state.Preparing None None
 
 abbrev pub IsSubmitted : Content → Waiting → Type 0
 IsSubmitted c txn = IsThere c txn state.Preparing None None
+
+-- whether a transaction came to its end: its record is applied or aborted
+abbrev pub is_end : State → Bool
+is_end state.Preparing = false
+is_end state.Prepared = false
+is_end state.Aborting = false
+is_end state.Applying = false
+is_end state.Aborted = true
+is_end state.Applied = true
+
+abbrev pub is_ended : Option Record → Bool
+is_ended None = false
+is_ended (Some rec) = is_end rec.state
+
+abbrev pub has_ended : Content → TxnId → Bool
+has_ended c id = is_ended (record_at c id)
 
 -- the state that a record comes to its end in
 abbrev pub settled_state : Outcome → State

@@ -1,9 +1,10 @@
 //! How a runner settles one transaction after the other.
 
-ghost use Rattle.std.specs.Prelude.{◌≡◌, ◌<◌, true, IsTrue, IfOk, IfErr, IsErrOf};
+ghost use Rattle.std.specs.Prelude.{◌≡◌, ◌<◌, true, false, IsTrue, IfOk, IfErr, OnErr, IsErrOf};
 ghost use Rattle.store_trait.specs.Calls.{CallsGoOn, OneCall, Rose};
+ghost use Rattle.store_trait.specs.View.{record_at};
 ghost use Rattle.txn_runner.specs.Causes.{HasCause};
-ghost use Rattle.txn_runner.specs.Settling.{IsWorth, WorksOn, ComesToStage, MayStop};
+ghost use Rattle.txn_runner.specs.Settling.{IsWorth, WorksOn, ComesToStage, MayStop, has_ended};
 ghost use Rattle.txn_runner.specs.Built.{is_built};
 ghost use Rattle.txn_runner.specs.Numbers.{Uses};
 ghost use Rattle.txn_runner.specs.Stages.{steps_left, suits, UsesUpTo};
@@ -30,6 +31,7 @@ pub fn settle<S: Store>(
         WorksOn S.content S.place S.calls store.old store.new order.old.items order.new.items txn.now.id }
     ensures settled { IsTrue S.tells → IfOk result
         (λ outcome. IsWorth (S.content store.new) txn.now (Stage.Settled outcome)) }
+    ensures unended { IsTrue S.tells → OnErr result (has_ended (S.content store.new) txn.now.id ≡ false) }
     ensures reason { IsTrue S.tells → IfErr result (MayStop (S.content store.new)) }
     ensures cause { IfErr result (HasCause S.answered S.calls store.old store.new txn.now.id) }
     ensures uses { IsTrue S.tells → Uses (S.content store.old) (S.content store.new) 1 1 0 0 }
@@ -60,6 +62,7 @@ fn advance<S: Store>(
     ensures works { IsTrue S.tells →
         WorksOn S.content S.place S.calls store.old store.new order.old.items order.new.items txn.now.id }
     ensures comes { IsTrue S.tells → ComesToStage (S.content store.new) txn.now result }
+    ensures stays { IsTrue S.tells → OnErr result (record_at (S.content store.new) txn.now.id ≡ record_at (S.content store.old) txn.now.id) }
     ensures nearer { IfOk result (λ next. steps_left next < steps_left stage) }
     ensures uses { IsTrue S.tells → UsesUpTo (S.content store.old) (S.content store.new) stage result }
     ensures suits { IfOk result (λ next. suits txn.now.ops next ≡ true) }

@@ -40,6 +40,7 @@ pub fn submit<S: Store>(alloc: Global, store: &mut S, txn: &Waiting) -> Result<b
     ensures calm { IsTrue S.tells → IsCalm (S.content store.new) }
     ensures stands { IsTrue S.tells → IfOk result
         (λ hits. (hits ≡ true) × IsSubmitted (S.content store.new) txn.now) }
+    ensures stays { IsTrue S.tells → OnErr result (record_at (S.content store.new) txn.now.id ≡ record_at (S.content store.old) txn.now.id) }
     ensures uses { IsTrue S.tells → Uses (S.content store.old) (S.content store.new) 0 0 0 0 }
     ensures kind { IfErr result IsOfStore }
     ensures repeated { IfOk result (λ hits. hits ≡ false →
@@ -72,6 +73,7 @@ pub fn draw<S: Store>(alloc: Global, store: &mut S, txn: &Waiting) -> Result<Sta
     ensures works { IsTrue S.tells → (order : List LogEntry) →
         WorksOn S.content S.place S.calls store.old store.new order order txn.now.id }
     ensures comes { IsTrue S.tells → ComesToStage (S.content store.new) txn.now result }
+    ensures stays { IsTrue S.tells → OnErr result (record_at (S.content store.new) txn.now.id ≡ record_at (S.content store.old) txn.now.id) }
     ensures nearer { IfOk result (λ next. steps_left next ≡ 6) }
     ensures uses { IsTrue S.tells → UsesUpTo (S.content store.old) (S.content store.new) Stage.Draw result }
     ensures suits { IfOk result (λ next. suits txn.now.ops next ≡ true) }
@@ -109,6 +111,7 @@ pub fn queue<S: Store>(
     ensures works { IsTrue S.tells → (order : List LogEntry) →
         WorksOn S.content S.place S.calls store.old store.new order order txn.now.id }
     ensures comes { IsTrue S.tells → ComesToStage (S.content store.new) txn.now result }
+    ensures stays { IsTrue S.tells → OnErr result (record_at (S.content store.new) txn.now.id ≡ record_at (S.content store.old) txn.now.id) }
     ensures drawn { IfOk result (λ next. next ≡ Stage.Prepare nonce) }
     ensures nearer { IfOk result (λ next. steps_left next ≡ 5) }
     ensures uses { IsTrue S.tells → UsesUpTo (S.content store.old) (S.content store.new) (Stage.Queue nonce) result }
@@ -134,6 +137,7 @@ pub fn prepare<S: Store>(
     ensures works { IsTrue S.tells → (order : List LogEntry) →
         WorksOn S.content S.place S.calls store.old store.new order order txn.now.id }
     ensures comes { IsTrue S.tells → ComesToStage (S.content store.new) txn.now result }
+    ensures stays { IsTrue S.tells → OnErr result (record_at (S.content store.new) txn.now.id ≡ record_at (S.content store.old) txn.now.id) }
     ensures nearer { IfOk result (λ next. steps_left next ≡ 4) }
     ensures uses { IsTrue S.tells → UsesUpTo (S.content store.old) (S.content store.new) (Stage.Prepare nonce) result }
     ensures suits { IfOk result (λ next. suits txn.now.ops next ≡ true) }
@@ -162,6 +166,7 @@ pub fn look<S: Store>(
     ensures works { IsTrue S.tells → (order : List LogEntry) →
         WorksOn S.content S.place S.calls store.old store.new order order txn.now.id }
     ensures comes { IsTrue S.tells → ComesToStage (S.content store.new) txn.now result }
+    ensures stays { IsTrue S.tells → OnErr result (record_at (S.content store.new) txn.now.id ≡ record_at (S.content store.old) txn.now.id) }
     ensures nearer { IfOk result (λ next. steps_left next ≡ 3) }
     ensures uses { IsTrue S.tells → UsesUpTo (S.content store.old) (S.content store.new) (Stage.Look nonce) result }
     ensures suits { IfOk result (λ next. suits txn.now.ops next ≡ true) }
@@ -198,6 +203,7 @@ pub fn decide<S: Store>(
     ensures works { IsTrue S.tells →
         WorksOn S.content S.place S.calls store.old store.new order.old.items order.new.items txn.now.id }
     ensures comes { IsTrue S.tells → ComesToStage (S.content store.new) txn.now result }
+    ensures stays { IsTrue S.tells → OnErr result (record_at (S.content store.new) txn.now.id ≡ record_at (S.content store.old) txn.now.id) }
     ensures nearer { IfOk result (λ next. steps_left next < 3) }
     ensures uses { IsTrue S.tells → UsesUpTo (S.content store.old) (S.content store.new) (Stage.Decide nonce revno holds) result }
     ensures suits { IfOk result (λ next. suits txn.now.ops next ≡ true) }
@@ -225,6 +231,7 @@ fn decide_to_apply<S: Store>(
     ensures works { IsTrue S.tells →
         WorksOn S.content S.place S.calls store.old store.new order.old.items order.new.items txn.now.id }
     ensures comes { IsTrue S.tells → ComesToStage (S.content store.new) txn.now result }
+    ensures stays { IsTrue S.tells → OnErr result (record_at (S.content store.new) txn.now.id ≡ record_at (S.content store.old) txn.now.id) }
     ensures nearer { IfOk result (λ next. steps_left next < 3) }
     ensures uses { IsTrue S.tells → UsesUpTo (S.content store.old) (S.content store.new) (Stage.Decide nonce revno true) result }
     ensures suits { IfOk result (λ next. suits txn.now.ops next ≡ true) }
@@ -269,6 +276,7 @@ fn decide_to_abort<S: Store>(
     ensures works { IsTrue S.tells →
         WorksOn S.content S.place S.calls store.old store.new order.old.items order.new.items txn.now.id }
     ensures comes { IsTrue S.tells → ComesToStage (S.content store.new) txn.now result }
+    ensures stays { IsTrue S.tells → OnErr result (record_at (S.content store.new) txn.now.id ≡ record_at (S.content store.old) txn.now.id) }
     ensures nearer { IfOk result (λ next. steps_left next < 3) }
     ensures uses { IsTrue S.tells → UsesUpTo (S.content store.old) (S.content store.new) (Stage.Decide nonce revno false) result }
     ensures suits { IfOk result (λ next. suits txn.now.ops next ≡ true) }
@@ -351,6 +359,7 @@ pub fn update<S: Store>(
     ensures works { IsTrue S.tells → (order : List LogEntry) →
         WorksOn S.content S.place S.calls store.old store.new order order txn.now.id }
     ensures comes { IsTrue S.tells → ComesToStage (S.content store.new) txn.now result }
+    ensures stays { IsTrue S.tells → OnErr result (record_at (S.content store.new) txn.now.id ≡ record_at (S.content store.old) txn.now.id) }
     ensures nearer { IfOk result (λ next. steps_left next ≡ 1) }
     ensures uses { IsTrue S.tells → UsesUpTo (S.content store.old) (S.content store.new) (Stage.Update nonce revno) result }
     ensures suits { IfOk result (λ next. suits txn.now.ops next ≡ true) }
@@ -376,6 +385,7 @@ pub fn finish<S: Store>(alloc: Global, store: &mut S, txn: &Waiting) -> Result<S
     ensures works { IsTrue S.tells → (order : List LogEntry) →
         WorksOn S.content S.place S.calls store.old store.new order order txn.now.id }
     ensures comes { IsTrue S.tells → ComesToStage (S.content store.new) txn.now result }
+    ensures stays { IsTrue S.tells → OnErr result (record_at (S.content store.new) txn.now.id ≡ record_at (S.content store.old) txn.now.id) }
     ensures nearer { IfOk result (λ next. steps_left next ≡ 0) }
     ensures uses { IsTrue S.tells → UsesUpTo (S.content store.old) (S.content store.new) Stage.Finish result }
     ensures suits { IfOk result (λ next. suits txn.now.ops next ≡ true) }
@@ -398,6 +408,7 @@ pub fn abort<S: Store>(alloc: Global, store: &mut S, txn: &Waiting) -> Result<St
     ensures works { IsTrue S.tells → (order : List LogEntry) →
         WorksOn S.content S.place S.calls store.old store.new order order txn.now.id }
     ensures comes { IsTrue S.tells → ComesToStage (S.content store.new) txn.now result }
+    ensures stays { IsTrue S.tells → OnErr result (record_at (S.content store.new) txn.now.id ≡ record_at (S.content store.old) txn.now.id) }
     ensures nearer { IfOk result (λ next. steps_left next ≡ 0) }
     ensures uses { IsTrue S.tells → UsesUpTo (S.content store.old) (S.content store.new) Stage.Abort result }
     ensures suits { IfOk result (λ next. suits txn.now.ops next ≡ true) }

@@ -1,9 +1,10 @@
-use Rattle.std.proofs.Common.{Err, ap}
+use Rattle.std.proofs.Common.{Err, ap, rules}
 use Rattle.std.proofs.lemmas.Result.{err_from_is_err_and}
 use Rattle.txn_runner.proofs.Works.{works_then, same_error}
 use Rattle.txn_runner.proofs.Answered.{caused_before}
 use Rattle.txn_runner.proofs.CallsMade.{call_after, rose_before}
 use Rattle.txn_runner.proofs.Numbers.{uses_then}
+use Rattle.txn_runner.proofs.Unended.{unended_still}
 use Rattle.txn_runner.proofs.settling.settle.Goals as goal
 
 pub returns-in_err-stage : goal.returns-in_err-stage
@@ -12,6 +13,7 @@ returns-in_err-stage g c =
     rw (p.1, p.2) (record {
       works = λ told. works_then _ _ _ _ _ _ _ _ _ _ (c.loop-stage.invariant.works told) (c.advance.ensures.works told);
       settled = λ told. tt;
+      unended = λ told. unended_still _ _ _ _ (search rules) (c.loop-stage.invariant.worth told) (c.in_err-stage.ensures.stays told);
       reason = λ told. (c.in_err-stage.ensures.comes told).cause;
       cause = caused_before _ _ _ _ _ _ _ c.loop-stage.invariant.made.counted c.in_err-stage.ensures.cause;
       uses = λ told. uses_then (c.loop-stage.invariant.uses told) (c.in_err-stage.ensures.uses told);

@@ -7,6 +7,7 @@ use Rattle.txn_runner.proofs.Works.{works_edited, works_idly, comes_edited, come
 use Rattle.txn_runner.proofs.Stages.{abort_hits, abort_quietly, abort_worth}
 use Rattle.txn_runner.proofs.Numbers.{uses_within, uses_same, uses_made, uses_record}
 use Rattle.std.proofs.Common.{arith}
+use Rattle.txn_runner.proofs.Unended.{same_record}
 use Rattle.txn_runner.proofs.steps.abort.Goals as goal
 
 pub returns-clause-works : goal.returns-clause-works
@@ -29,3 +30,6 @@ returns-clause-uses g c = λ told. uses_within (uses_made (c.in_ok-must_hit.ensu
 
 pub returns-in_err-must_hit-clause-uses : goal.returns-in_err-must_hit-clause-uses
 returns-in_err-must_hit-clause-uses g c = λ told. let p = err_from_is_err_and c.from_residual.result c.from_residual.ensures.1 in rw p.1 (uses_within (uses_same _ _ (c.in_err-must_hit.ensures.left told (abort_hits _ _ (c.requires.worth told)))) (omega arith) (omega arith))
+
+pub returns-in_err-must_hit-clause-stays : goal.returns-in_err-must_hit-clause-stays
+returns-in_err-must_hit-clause-stays g c = λ told. let p = err_from_is_err_and c.from_residual.result c.from_residual.ensures.1 in rw p.1 (same_record _ _ _ (c.in_err-must_hit.ensures.left told (abort_hits _ _ (c.requires.worth told))))

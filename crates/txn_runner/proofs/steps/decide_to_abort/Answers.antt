@@ -6,6 +6,7 @@ use Rattle.txn_runner.proofs.Beside.{record_others}
 use Rattle.txn_runner.proofs.Works.{works_idly, works_given_up, comes_edited, comes_to_nothing}
 use Rattle.txn_runner.proofs.Stages.{apply_hits, give_up_aborts, give_up_worth}
 use Rattle.txn_runner.proofs.Numbers.{uses_within, uses_same, uses_made, uses_record}
+use Rattle.txn_runner.proofs.Unended.{same_record}
 use Rattle.txn_runner.proofs.steps.decide_to_abort.Goals as goal
 
 pub returns-clause-works : goal.returns-clause-works
@@ -31,3 +32,6 @@ pub returns-in_err-record_decision-clause-uses : goal.returns-in_err-record_deci
 returns-in_err-record_decision-clause-uses g c = λ told.
     let p = err_from_is_err_and c.from_residual.result c.from_residual.ensures.1 in
     rw p.1 (uses_within (uses_same _ _ (c.in_err-record_decision.ensures.left told (apply_hits _ _ c.args.nonce c.args.revno false (c.requires.worth told) state.Aborting None))) (omega arith) (omega arith))
+
+pub returns-in_err-record_decision-clause-stays : goal.returns-in_err-record_decision-clause-stays
+returns-in_err-record_decision-clause-stays g c = λ told. let p = err_from_is_err_and c.from_residual.result c.from_residual.ensures.1 in rw p.1 (same_record _ _ _ (c.in_err-record_decision.ensures.left told (apply_hits _ _ c.args.nonce c.args.revno false (c.requires.worth told) state.Aborting None)))

@@ -7,6 +7,7 @@ use Rattle.txn_runner.proofs.Beside.{record_others}
 use Rattle.txn_runner.proofs.Works.{works_idly, works_applied, comes_edited, comes_to_nothing}
 use Rattle.txn_runner.proofs.Stages.{apply_hits, apply_applies, apply_worth}
 use Rattle.txn_runner.proofs.Numbers.{uses_within, uses_same, uses_made, uses_record, uses_up_to}
+use Rattle.txn_runner.proofs.Unended.{same_record}
 use Rattle.txn_runner.proofs.steps.decide_to_apply.Goals as goal
 
 pub returns-clause-works : goal.returns-clause-works
@@ -44,3 +45,6 @@ pub returns-in_err-record_decision-clause-uses : goal.returns-in_err-record_deci
 returns-in_err-record_decision-clause-uses g c = λ told.
     let p = err_from_is_err_and c.from_residual-in_err-record_decision.result c.from_residual-in_err-record_decision.ensures.1 in
     rw p.1 (uses_within (uses_same _ _ (c.in_err-record_decision.ensures.left told (apply_hits _ _ c.args.nonce c.args.revno true (c.requires.worth told) state.Applying (Some c.in_ok-revnos.revnos)))) (omega arith) (omega arith))
+
+pub returns-in_err-record_decision-clause-stays : goal.returns-in_err-record_decision-clause-stays
+returns-in_err-record_decision-clause-stays g c = λ told. let p = err_from_is_err_and c.from_residual-in_err-record_decision.result c.from_residual-in_err-record_decision.ensures.1 in rw p.1 (same_record _ _ _ (c.in_err-record_decision.ensures.left told (apply_hits _ _ c.args.nonce c.args.revno true (c.requires.worth told) state.Applying (Some c.in_ok-revnos.revnos))))

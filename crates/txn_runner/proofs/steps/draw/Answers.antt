@@ -10,6 +10,7 @@ use Rattle.txn_runner.proofs.Stages.{draw_quietly, draw_ok, draw_err}
 use Rattle.txn_runner.proofs.Works.{works_edited, works_idly, comes_err, comes_edited}
 use Rattle.txn_runner.proofs.Numbers.{uses_within, uses_same, uses_made, uses_draw}
 use Rattle.std.proofs.Common.{arith}
+use Rattle.txn_runner.proofs.Unended.{drawn_record}
 use Rattle.txn_runner.proofs.steps.draw.Goals as goal
 
 pub returns-in_err-drawn-clause-works : goal.returns-in_err-drawn-clause-works
@@ -49,3 +50,6 @@ returns-in_err-nonce-clause-uses g c =
 
 pub returns-clause-uses : goal.returns-clause-uses
 returns-clause-uses g c = λ told. uses_within (uses_made (c.in_ok-drawn.ensures.made told) (uses_draw _)) (omega arith) (omega arith)
+
+pub returns-in_err-nonce-clause-stays : goal.returns-in_err-nonce-clause-stays
+returns-in_err-nonce-clause-stays g c = λ told. let p = err_from_is_err_and c.from_residual-in_err-nonce.result c.from_residual-in_err-nonce.ensures.1 in rw p.1 (drawn_record _ _ _ (c.in_ok-drawn.ensures.made told))

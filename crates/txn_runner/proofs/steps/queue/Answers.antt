@@ -5,6 +5,7 @@ use Rattle.txn_runner.proofs.Works.{works_edited, works_idly, comes_edited, come
 use Rattle.txn_runner.proofs.Stages.{queue_hits, queue_quietly, queue_worth}
 use Rattle.txn_runner.proofs.Numbers.{uses_within, uses_same, uses_made, uses_add}
 use Rattle.std.proofs.Common.{arith}
+use Rattle.txn_runner.proofs.Unended.{same_record}
 use Rattle.txn_runner.proofs.steps.queue.Goals as goal
 
 pub returns-clause-works : goal.returns-clause-works
@@ -27,3 +28,6 @@ returns-clause-uses g c = λ told. uses_within (uses_made (rw c.in_ok-copy.ensur
 
 pub returns-in_err-must_hit-clause-uses : goal.returns-in_err-must_hit-clause-uses
 returns-in_err-must_hit-clause-uses g c = λ told. let p = err_from_is_err_and c.from_residual-in_err-must_hit.result c.from_residual-in_err-must_hit.ensures.1 in rw p.1 (uses_within (uses_same _ _ (c.in_err-must_hit.ensures.left told (rw c.in_ok-copy.ensures (queue_hits _ _ _ c.only.ensures.only _ (c.requires.worth told))))) (omega arith) (omega arith))
+
+pub returns-in_err-must_hit-clause-stays : goal.returns-in_err-must_hit-clause-stays
+returns-in_err-must_hit-clause-stays g c = λ told. let p = err_from_is_err_and c.from_residual-in_err-must_hit.result c.from_residual-in_err-must_hit.ensures.1 in rw p.1 (same_record _ _ _ (c.in_err-must_hit.ensures.left told (rw c.in_ok-copy.ensures (queue_hits _ _ _ c.only.ensures.only _ (c.requires.worth told)))))
