@@ -13,4 +13,3 @@ pub mod Caused
 pub mod Coming
 pub mod Completing
 pub mod LineSteps
-pub mod Unfinished
