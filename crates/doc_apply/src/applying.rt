@@ -3,11 +3,8 @@ ghost use Rattle.doc_update.specs.Updates.{if_body, updated};
 
 use crate::together::after_all;
 use doc_update::{Update, changes_in, fields_of, sort_by_path};
-use doc_value::{OutOfMemory, Value, is_ordered};
+use doc_value::{MAX_BODY_NESTING, OutOfMemory, Value, is_ordered};
 use std::alloc::Global;
-
-/// The deepest nesting of lists and objects that a body may have.
-pub(crate) const MAX_BODY_NESTING: u32 = 90;
 
 /// The body after the update: None exactly where the update doesn't fit it. Body and update are gone
 /// over once, beside the sorting of the update's paths.

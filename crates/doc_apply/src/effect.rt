@@ -5,7 +5,7 @@ ghost use Rattle.doc_value.specs.declared.value.Value.{out-Value, List as Items_
 ghost use Rattle.doc_update.specs.Effects.{effect, effect_on, effect_on_missing, increased, is_among, is_one, without_item, popped, pushed_onto, added_to, pulled_from, popped_from};
 
 use doc_update::Operator;
-use doc_value::{OutOfMemory, Value};
+use doc_value::{OutOfMemory, Value, copy_items};
 use sqlite_items::Items;
 use std::alloc::Global;
 
@@ -187,16 +187,6 @@ fn list_of(alloc: Global, items: &[Value]) -> Result<Value, OutOfMemory>
     ensures { IfOk result (λ list. list ≡ Items_of items.now) }
 {
     Ok(Value::List(copy_items(alloc, items)?))
-}
-
-fn copy_items(alloc: Global, items: &[Value]) -> Result<Items<Value>, OutOfMemory>
-    ensures { IfOk result (λ copies. copies ≡ items.now) }
-{
-    let mut copies = Items::new(alloc);
-    for item in items {
-        copies.push(item.copy(alloc)?)?;
-    }
-    Ok(copies)
 }
 
 /// Copies of the items that don't equal the operand.

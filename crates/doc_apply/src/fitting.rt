@@ -13,10 +13,9 @@ ghost use Rattle.doc_apply.specs.Fitting.{located, is_nothing, change_is_good, i
 ghost use Rattle.doc_update.specs.Operators.{operator_named};
 ghost use Rattle.doc_update.specs.Updates.{updated};
 
-use crate::applying::MAX_BODY_NESTING;
 use crate::effect::{is_among, popped};
 use doc_update::{Operator, Update, fields_of, is_object};
-use doc_value::{Field, Value, field_of, is_ordered};
+use doc_value::{Field, MAX_BODY_NESTING, Value, field_of, is_ordered};
 
 /// Whether the update can be made to the body. It takes no memory.
 pub fn fits(update: &Update, body: &Value) -> bool

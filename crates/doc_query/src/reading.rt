@@ -1,14 +1,13 @@
 //! The first fault of a value that is to be read as a query.
-ghost use Rattle.std.specs.Prelude.{◌≡◌, IfOk, IfErr, is_ok, map};
+ghost use Rattle.std.specs.Prelude.{◌≡◌, map};
 ghost use Rattle.doc_value.specs.Fields.{judged};
-ghost use Rattle.doc_value.specs.Paths.{path_in};
 ghost use Rattle.doc_value.specs.declared.value.Value.{out-Value};
 ghost use Rattle.doc_query.specs.Operators.{operator_named, logic_named, is_operand};
 ghost use Rattle.doc_query.specs.Reading.{as_query, as_queries, as_member, as_condition, as_negated, operator_fault, operators_fault, condition_fault, logic_fault, path_fault, name_fault, names_fault, members_fault, queries_fault, negated_fault, fault_at, beside_fault, operand_fault, Reports};
 
 use crate::fault::QueryFault;
 use crate::operator::{Logic, Operator, are_all_operators, has_operator, is_operator};
-use doc_value::{Field, Path, PathFault, Text, Value};
+use doc_value::{Field, Text, Value, is_path};
 use std::alloc::Global;
 
 /// Refuses a value that is no query.
@@ -42,7 +41,7 @@ fn check_name(alloc: Global, name: &Text, value: &Value) -> Result<(), QueryFaul
             None => Err(QueryFault::UnknownOperator(name.copy(alloc)?)),
         };
     }
-    if !is_path(alloc, name)? {
+    if !is_path(alloc, name.as_bytes())? {
         return Err(QueryFault::BadPath(name.copy(alloc)?));
     }
     check_condition(alloc, name, value)
@@ -81,17 +80,6 @@ fn check_member(alloc: Global, name: &Text, value: &Value) -> Result<(), QueryFa
     match value {
         Value::Object(fields) => check_names(alloc, fields.as_slice()),
         _ => Err(QueryFault::BadOperand(name.copy(alloc)?)),
-    }
-}
-
-fn is_path(alloc: Global, name: &Text) -> Result<bool, QueryFault>
-    ensures ok { IfOk result (λ is. is ≡ is_ok (path_in name.now)) }
-    ensures err { IfErr result (λ why. why ≡ QueryFault.OutOfMemory) }
-{
-    match Path::read(alloc, name.as_bytes()) {
-        Ok(_) => Ok(true),
-        Err(PathFault::OutOfMemory) => Err(QueryFault::OutOfMemory),
-        Err(_) => Ok(false),
     }
 }
 

@@ -1,13 +1,12 @@
 //! The changes that an update is made of, as a list.
 ghost use Rattle.std.specs.Prelude.{◌≡◌, ◌++◌, map, IfOk, OnOk};
-ghost use Rattle.doc_value.specs.Paths.{parts_of};
 ghost use Rattle.doc_update.specs.Changes.{changes_in, changes_under, change_of, fields_of};
 ghost use Rattle.doc_update.specs.Listed.{change_listed};
 ghost use Rattle.doc_update.specs.Operators.{operator_named};
 
 use crate::operator::Operator;
 use crate::shape::fields_of;
-use doc_value::{Field, OutOfMemory, Text};
+use doc_value::{Field, OutOfMemory, Text, split_parts};
 use sqlite_items::Items;
 use std::alloc::Global;
 
@@ -49,16 +48,4 @@ fn push_changes<'a>(
         })?;
     }
     Ok(())
-}
-
-/// The pieces between the dots.
-fn split_parts(alloc: Global, text: &str) -> Result<Items<Text>, OutOfMemory>
-    ensures { IfOk result (λ parts. parts ≡ parts_of text.now) }
-{
-    let pieces: Vec<&str> = text.split('.').collect(alloc)?;
-    let mut parts = Items::new(alloc);
-    for piece in &pieces {
-        parts.push(Text::from_str(alloc, piece)?)?;
-    }
-    Ok(parts)
 }

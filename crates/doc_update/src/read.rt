@@ -1,5 +1,4 @@
-ghost use Rattle.std.specs.Prelude.{◌≡◌, ◌≢◌, IfOk, Ok, is_ok};
-ghost use Rattle.doc_value.specs.Paths.{path_in};
+ghost use Rattle.std.specs.Prelude.{◌≡◌, ◌≢◌, IfOk, Ok};
 ghost use Rattle.doc_update.specs.Reading.{fault_of_shape, conflict_fault, fault_of_change, fault_of_changes, fault_of_operators, fault_under};
 ghost use Rattle.doc_update.specs.Changes.{fields_of, changes_in};
 ghost use Rattle.doc_update.specs.Conflicts.{first_conflict};
@@ -9,8 +8,8 @@ use crate::conflict::first_conflict;
 use crate::fault::UpdateFault;
 use crate::operator::Operator;
 use crate::shape::{are_operators, fields_of, has_empty};
-use doc_value::{Field, OutOfMemory, Path, PathFault};
-use std::alloc::{AllocError, Global};
+use doc_value::{Field, OutOfMemory, is_path};
+use std::alloc::Global;
 
 /// The first fault of an update's operators.
 pub(crate) fn fault_among(
@@ -93,16 +92,4 @@ fn fault_of_change(
         return Ok(Some(UpdateFault::BadOperand(change.name.copy(alloc)?)));
     }
     Ok(None)
-}
-
-fn is_path(alloc: Global, text: &[u8]) -> Result<bool, OutOfMemory>
-    ensures { IfOk result (λ good. good ≡ is_ok (path_in text.now)) }
-{
-    match Path::read(alloc, text) {
-        Ok(_) => Ok(true),
-        Err(PathFault::EmptyPart) => Ok(false),
-        Err(PathFault::BadPart) => Ok(false),
-        Err(PathFault::Reserved) => Ok(false),
-        Err(PathFault::OutOfMemory) => Err(AllocError),
-    }
 }

@@ -15,7 +15,7 @@ use sqlite_items::Items;
 use std::alloc::Global;
 
 /// The deepest nesting of lists and objects that a body may have.
-const MAX_BODY_NESTING: u32 = 90;
+pub const MAX_BODY_NESTING: u32 = 90;
 
 /// The value as the body of the document of that id: the value itself, without the field `_id` at the
 /// top, which may stand there where it equals the id.

@@ -22,17 +22,17 @@ mod read;
 mod text;
 mod value;
 
-pub use body::read_body;
+pub use body::{MAX_BODY_NESTING, read_body};
 pub use doc_id::DocId;
 pub use fault::{BodyFault, PathFault, ValueFault};
 pub use laws::{reads_back, same_is_equality};
 pub use lookup::{field_of, get, get_by_text};
 pub use ordered::is_ordered;
-pub use path::Path;
+pub use path::{Path, is_path, split_parts};
 pub use print::{print_value, push_text, push_value};
 pub use read::read_value;
 pub use text::{OutOfMemory, Text};
-pub use value::{Field, Fields, Named, Value};
+pub use value::{Field, Fields, Named, Value, copy_items};
 
 #[cfg(test)]
 mod tests;

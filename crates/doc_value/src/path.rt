@@ -1,4 +1,4 @@
-ghost use Rattle.std.specs.Prelude.{◌≡◌, ◌≢◌, IfOk, Err, length};
+ghost use Rattle.std.specs.Prelude.{◌≡◌, ◌≢◌, IfOk, Err, is_ok, length};
 ghost use Rattle.std.specs.List.{list_any};
 ghost use Rattle.doc_value.specs.Paths.{path_in, path_of, parts_of, is_empty_part, is_bad_part, begins_reserved};
 
@@ -6,7 +6,7 @@ use crate::fault::PathFault;
 use crate::name;
 use crate::text::{OutOfMemory, Text};
 use sqlite_items::Items;
-use std::alloc::Global;
+use std::alloc::{AllocError, Global};
 use std::marker::Model;
 
 /// The most bytes of a path's text.
@@ -80,7 +80,19 @@ fn copy_parts(alloc: Global, parts: &[Text]) -> Result<Items<Text>, OutOfMemory>
     Ok(copies)
 }
 
-fn split_parts(alloc: Global, text: &str) -> Result<Items<Text>, OutOfMemory>
+/// Whether a path has that text.
+pub fn is_path(alloc: Global, text: &[u8]) -> Result<bool, OutOfMemory>
+    ensures { IfOk result (λ is. is ≡ is_ok (path_in text.now)) }
+{
+    match Path::read(alloc, text) {
+        Ok(_) => Ok(true),
+        Err(PathFault::OutOfMemory) => Err(AllocError),
+        Err(_) => Ok(false),
+    }
+}
+
+/// The pieces between the dots.
+pub fn split_parts(alloc: Global, text: &str) -> Result<Items<Text>, OutOfMemory>
     ensures { IfOk result (λ parts. parts ≡ parts_of text.now) }
 {
     let pieces: Vec<&str> = text.split('.').collect(alloc)?;

@@ -47,8 +47,9 @@ impl Value {
     }
 }
 
+/// Copies of the items, in their order.
 #[cycle(copy)]
-fn copy_items(alloc: Global, items: &[Value]) -> Result<Items<Value>, OutOfMemory>
+pub fn copy_items(alloc: Global, items: &[Value]) -> Result<Items<Value>, OutOfMemory>
     ensures { IfOk result (λ copies. copies ≡ items.now) }
 {
     let mut copies = Items::new(alloc);

@@ -6,7 +6,7 @@ use doc_value::OutOfMemory;
 use sqlite_items::Items;
 use std::alloc::Global;
 use txn_key::Token;
-use txn_record::{Record, State};
+use txn_record::{Record, State, copy_revnos};
 
 /// A change of one cell, made only where its guard holds.
 #[derive(Drop)]
@@ -85,18 +85,6 @@ impl Edit {
                 Ok(Edit::Place { cell })
             }
         }
-    }
-}
-
-fn copy_revnos(
-    alloc: Global,
-    revnos: &Option<Items<i64>>,
-) -> Result<Option<Items<i64>>, OutOfMemory>
-    ensures { IfOk result (λ copy. copy ≡ revnos.now) }
-{
-    match revnos {
-        None => Ok(None),
-        Some(list) => Ok(Some(Items::from_slice(alloc, list.as_slice())?)),
     }
 }
 

@@ -64,7 +64,8 @@ fn copy_info(alloc: Global, info: &Option<Value>) -> Result<Option<Value>, OutOf
     }
 }
 
-fn copy_revnos(
+/// A copy of the revision numbers of a record, where it has them.
+pub fn copy_revnos(
     alloc: Global,
     revnos: &Option<Items<i64>>,
 ) -> Result<Option<Items<i64>>, OutOfMemory>
