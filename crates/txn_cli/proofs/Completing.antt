@@ -10,13 +10,13 @@ not_true true h = absurd (h refl)
 not_true false h = refl
 
 -- a refusal has its cause in the call
-pub caused : (in_grammar : Bool) (A B : Type 0) (c : Content) (f : Fault) → (IsTrue in_grammar → f ≢ fault.Words) → (f ≡ fault.Store → A) → (f ≡ fault.Input → B) → HasReason c f → IsCaused in_grammar A B c f
-caused in_grammar A B c fault.Words words store input reason = not_true in_grammar (λ is. words is refl)
-caused in_grammar A B c fault.Store words store input reason = store refl
-caused in_grammar A B c fault.Input words store input reason = input refl
-caused in_grammar A B c fault.Output words store input reason = reason
-caused in_grammar A B c fault.OutOfMemory words store input reason = reason
-caused in_grammar A B c (fault.Line number text) words store input reason = reason
-caused in_grammar A B c (fault.Spent error) words store input reason = reason
-caused in_grammar A B c (fault.Broken error) words store input reason = reason
-caused in_grammar A B c (fault.Repeated id) words store input reason = reason
+pub caused : (in_grammar : Bool) (A B D : Type 0) (c : Content) (f : Fault) → f ≢ fault.Output → (IsTrue in_grammar → f ≢ fault.Words) → (f ≡ fault.Store → A) → (f ≡ fault.Input → B) → HasReason c f → IsCaused in_grammar A B D c f
+caused in_grammar A B D c fault.Words other words store input reason = not_true in_grammar (λ is. words is refl)
+caused in_grammar A B D c fault.Store other words store input reason = store refl
+caused in_grammar A B D c fault.Input other words store input reason = input refl
+caused in_grammar A B D c fault.Output other words store input reason = absurd (other refl)
+caused in_grammar A B D c fault.OutOfMemory other words store input reason = reason
+caused in_grammar A B D c (fault.Line number text) other words store input reason = reason
+caused in_grammar A B D c (fault.Spent error) other words store input reason = reason
+caused in_grammar A B D c (fault.Broken error) other words store input reason = reason
+caused in_grammar A B D c (fault.Repeated id) other words store input reason = reason

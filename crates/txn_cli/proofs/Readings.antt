@@ -1,6 +1,5 @@
 -- How a call comes from line to line, with what it writes.
-use Rattle.std.proofs.Common.{◌≡◌, ◌≢◌, ◌≤◌, ℕ, ◌+◌, arith, Bool, true, false, List, [], ◌++◌, Option, Some, None, Result, Ok, Err, OnOk, OnErr, IfErr, IsTrue, codes, length, ◌⊎◌, ⊎_elim, inl, inr, refl, sym, ap, ◌∙◌, subst}
-use Rattle.std.proofs.Math.Seq.{take-length}
+use Rattle.std.proofs.Common.{◌≡◌, ◌≢◌, ◌≤◌, ℕ, ◌+◌, arith, Bool, true, false, List, [], ◌++◌, Option, Some, None, Result, Ok, Err, OnOk, OnErr, IfErr, IsTrue, codes, ◌⊎◌, ⊎_elim, inl, inr, refl, sym, ap, ◌∙◌, subst}
 use Rattle.std.proofs.lemmas.List.{append-nil, append_assoc}
 use Rattle.store_trait.specs.Contents.{Content}
 use Rattle.txn_runner.specs.Calm.{IsCalm}
@@ -22,7 +21,7 @@ use Rattle.txn_cli.specs.Texts.{fault_text}
 use Rattle.txn_script.specs.declared.fault.ScriptFault.{ScriptFault}
 use Rattle.txn_script.specs.declared.statement.Statement.{Statement}
 use Rattle.txn_script.specs.declared.statement.Statement.TheVariants as statement
-use Rattle.txn_cli.specs.Reading.{EndsWith, HasCut, HasPlayed, HasStopped, HasRefused, StopsWith}
+use Rattle.txn_cli.specs.Reading.{EndsWith, HasCut, HasPlayed, HasStopped, HasRefused, IsPut, StopsWith}
 use Rattle.txn_cli.specs.Runs.{RunsGoOn}
 use Rattle.txn_cli.specs.Sessions.{IsHeld, IsNew, at}
 use Rattle.txn_cli.specs.declared.done.Run.{Run}
@@ -76,10 +75,15 @@ module _ (script : List ℕ) (start : Progress) (content : Content) (place : ℕ
 
 -- ---- the last line of a refusal was written, or another refusal came
 
--- all of a piece is some first part of it
-pub put_first : {T E : Type 0} (r : Result T E) (old now piece : List ℕ) → OnOk r (now ≡ old ++ piece) → OnErr r (IsPartPut old now piece) → IsPartPut old now piece
-put_first (Ok x) old now piece whole part = record { count = length piece; part = whole ∙ ap (λ (l : List ℕ). old ++ l) (sym (take-length piece)) }
-put_first (Err e) old now piece whole part = part
+-- a piece was put whole, or the output failed
+pub put_or_failed : {T E : Type 0} (r : Result T E) (old now piece : List ℕ) (failed : Type 0) → OnOk r (now ≡ old ++ piece) → OnErr r (IsPartPut old now piece) → OnErr r failed → IsPut old now piece failed
+put_or_failed (Ok x) old now piece failed whole part cause = inl whole
+put_or_failed (Err e) old now piece failed whole part cause = inr (part, cause)
+
+-- what failed since a later moment has failed since an earlier one
+pub put_since : (old now piece : List ℕ) (A B : Type 0) → (A → B) → IsPut old now piece A → IsPut old now piece B
+put_since old now piece A B more (inl whole) = inl whole
+put_since old now piece A B more (inr part) = inr (part.0, more part.1)
 
 is_output : (f : Fault) → (f ≡ fault.Output) ⊎ (f ≢ fault.Output)
 is_output fault.Output = inl refl
@@ -144,11 +148,11 @@ module _ (script : List ℕ) (done : ℕ) (last : Progress) (content : Content) 
 
       ends_told : (told : Fault) → (told ≡ why) ⊎ (told ≡ fault.OutOfMemory) ⊎ ((told ≡ fault.Output) × rose)
           → (IsTrue sink_tells → told ≢ fault.Output → told ≢ fault.OutOfMemory → now ≡ written ++ fault_text told)
-          → (IsTrue sink_tells → told ≡ fault.OutOfMemory → IsPartPut written now (fault_text fault.OutOfMemory))
+          → (IsTrue sink_tells → told ≡ fault.OutOfMemory → IsPut written now (fault_text fault.OutOfMemory) (Caused fault.Output))
           → (IsTrue sink_tells → told ≡ fault.Output → IsPartPut written now (fault_text why))
           → EndsWith Caused script done last content place runs sink_tells before now told
       ends_told fault.Output kept whole memory cut = inr (record { why = why; caused = caused; leaves = stops.0; part = λ tells. subst (λ (w : List ℕ). IsPartPut w now (fault_text why)) (stops.1 tells) (cut tells refl) })
-      ends_told fault.OutOfMemory kept whole memory cut = (leaves_memory why stops.0, λ tells. subst (λ (w : List ℕ). IsPartPut w now (fault_text fault.OutOfMemory)) (stops.1 tells) (memory tells refl))
+      ends_told fault.OutOfMemory kept whole memory cut = (leaves_memory why stops.0, λ tells. subst (λ (w : List ℕ). IsPut w now (fault_text fault.OutOfMemory) (Caused fault.Output)) (stops.1 tells) (memory tells refl))
       ends_told fault.Words kept whole memory cut = whole_line fault.Words (told_is fault.Words (λ e. cc) (λ e. cc) kept) (λ tells. whole tells (λ e. cc) (λ e. cc))
       ends_told (fault.Line number text) kept whole memory cut = whole_line (fault.Line number text) (told_is (fault.Line number text) (λ e. cc) (λ e. cc) kept) (λ tells. whole tells (λ e. cc) (λ e. cc))
       ends_told fault.Store kept whole memory cut = whole_line fault.Store (told_is fault.Store (λ e. cc) (λ e. cc) kept) (λ tells. whole tells (λ e. cc) (λ e. cc))
@@ -158,11 +162,11 @@ module _ (script : List ℕ) (done : ℕ) (last : Progress) (content : Content) 
       ends_told (fault.Repeated id) kept whole memory cut = whole_line (fault.Repeated id) (told_is (fault.Repeated id) (λ e. cc) (λ e. cc) kept) (λ tells. whole tells (λ e. cc) (λ e. cc))
 
 pub refuses_out : (Caused : Fault → Type 0) (script : List ℕ) (start : Progress) (content : Content) (place : ℕ → Content) (from to : ℕ) (why told : Fault) (runs : List Run) (sink_tells : Bool) (old_written written now : List ℕ) (rose : Type 0) → HasStopped script start content place from to why runs sink_tells old_written written
-    → Caused why
+    → (why ≢ fault.Output → Caused why)
     → (told ≡ why) ⊎ (told ≡ fault.OutOfMemory) ⊎ ((told ≡ fault.Output) × rose)
     → (why ≡ fault.Output → (told ≡ fault.Output) × (now ≡ written))
     → (IsTrue sink_tells → told ≢ fault.Output → told ≢ fault.OutOfMemory → now ≡ written ++ fault_text told)
-    → (IsTrue sink_tells → told ≡ fault.OutOfMemory → IsPartPut written now (fault_text fault.OutOfMemory))
+    → (IsTrue sink_tells → told ≡ fault.OutOfMemory → IsPut written now (fault_text fault.OutOfMemory) (Caused fault.Output))
     → (IsTrue sink_tells → why ≢ fault.Output → told ≡ fault.Output → IsPartPut written now (fault_text why))
     → HasRefused Caused script start content place from to told runs sink_tells old_written now
 refuses_out Caused script start content place from to why told runs sink_tells old_written written now rose h caused kept output whole memory cut = record {
@@ -176,7 +180,7 @@ refuses_out Caused script start content place from to why told runs sink_tells o
       kept;
   ends = ⊎_elim
       (λ is. subst (λ (f : Fault). EndsWith Caused script h.done h.last content place runs sink_tells before now f) (sym (output is).0) (ends_cut script h.done h.last content place runs Caused sink_tells before written now rose (subst (StopsWith script h.done h.last content place runs sink_tells before written) is h.stops) (output is).1))
-      (λ other. ends_told script h.done h.last content place runs Caused sink_tells before written now rose why other caused (stops_other script h.done h.last content place runs sink_tells before written why other h.stops) told kept whole memory (λ tells is. cut tells other is))
+      (λ other. ends_told script h.done h.last content place runs Caused sink_tells before written now rose why other (caused other) (stops_other script h.done h.last content place runs sink_tells before written why other h.stops) told kept whole memory (λ tells is. cut tells other is))
       (is_output why);
 }
   where

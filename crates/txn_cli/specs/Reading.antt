@@ -38,12 +38,16 @@ pub record HasCutOff (Caused : Fault → Type 0) (script : List ℕ) (done : ℕ
   pub leaves : Leaves script done last content place runs why
   pub part : IsTrue sink_tells → IsPartPut before written (fault_text why)
 
--- How a call that was refused ends, behind the lines that were done: with the last line of the refusal, or
--- some first bytes of it where memory was wanting; where the output failed, with some first bytes of what
--- was to be written.
+-- a line was written whole, or some first bytes of it before the output failed
+abbrev pub IsPut : List ℕ → List ℕ → List ℕ → Type 0 → Type 0
+IsPut before written line failed = (written ≡ before ++ line) ⊎ (IsPartPut before written line × failed)
+
+-- How a call that was refused ends, behind the lines that were done: with the last line of the refusal, or,
+-- where memory was wanting and the output failed too, with some first bytes of it; where the output failed,
+-- with some first bytes of what was to be written.
 abbrev pub EndsWith : (Fault → Type 0) → List ℕ → ℕ → Progress → Content → (ℕ → Content) → List Run → Bool → List ℕ → List ℕ → Fault → Type 0
 EndsWith Caused script done last content place runs sink_tells before written fault.Output = HasCut script done last content runs sink_tells before written ⊎ HasCutOff Caused script done last content place runs sink_tells before written
-EndsWith Caused script done last content place runs sink_tells before written fault.OutOfMemory = Leaves script done last content place runs fault.OutOfMemory × (IsTrue sink_tells → IsPartPut before written (fault_text fault.OutOfMemory))
+EndsWith Caused script done last content place runs sink_tells before written fault.OutOfMemory = Leaves script done last content place runs fault.OutOfMemory × (IsTrue sink_tells → IsPut before written (fault_text fault.OutOfMemory) (Caused fault.Output))
 EndsWith Caused script done last content place runs sink_tells before written why = Leaves script done last content place runs why × (IsTrue sink_tells → written ≡ before ++ fault_text why)
 
 -- Some first lines of a script were done, and the call ended with a refusal: what the store held after each

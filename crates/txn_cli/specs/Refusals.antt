@@ -81,8 +81,9 @@ HasCause answered calls old new (fault.Repeated id) = LastShows answered calls o
 HasCause answered calls old new _ = Unit {0}
 
 -- Whether a refusal has its cause in the call: the words, the counts of faults, what the store holds.
-abbrev pub IsCaused : Bool → Type 0 → Type 0 → Content → Fault → Type 0
-IsCaused in_grammar store_rose input_rose c fault.Words = in_grammar ≡ false
-IsCaused in_grammar store_rose input_rose c fault.Store = store_rose
-IsCaused in_grammar store_rose input_rose c fault.Input = input_rose
-IsCaused in_grammar store_rose input_rose c why = HasReason c why
+abbrev pub IsCaused : Bool → Type 0 → Type 0 → Type 0 → Content → Fault → Type 0
+IsCaused in_grammar store_rose input_rose output_rose c fault.Words = in_grammar ≡ false
+IsCaused in_grammar store_rose input_rose output_rose c fault.Store = store_rose
+IsCaused in_grammar store_rose input_rose output_rose c fault.Input = input_rose
+IsCaused in_grammar store_rose input_rose output_rose c fault.Output = output_rose
+IsCaused in_grammar store_rose input_rose output_rose c why = HasReason c why

@@ -9,7 +9,7 @@ ghost use Rattle.txn_cli.specs.Faulting.{status_of, fault_of_line};
 ghost use Rattle.txn_cli.specs.Leaving.{runs_batch};
 ghost use Rattle.txn_cli.specs.Outcomes.{has_aborted, is_aborted};
 ghost use Rattle.txn_cli.specs.Play.{opening, has_no_cell, is_allowed, is_grammar, lets_run, Does, IsValid, RunsItself};
-ghost use Rattle.txn_cli.specs.Reading.{HasPlayed, HasStopped, HasRefused};
+ghost use Rattle.txn_cli.specs.Reading.{HasPlayed, HasStopped, HasRefused, IsPut};
 ghost use Rattle.txn_io.specs.Pour.{IsPartPut};
 ghost use Rattle.txn_cli.specs.Refusals.{HasCause, HasReason, IsCaused, IsOfLine, IsOfStatement, IsOfReading, IsUnspent, not_built};
 ghost use Rattle.txn_cli.specs.Runs.{AreFaithful, RunsGoOn};
@@ -58,7 +58,7 @@ pub fn command<S: Store, I: Source, O: Sink>(
         (S.content result.store) (S.place result.store) (S.calls store) (S.calls result.store) result.runs.items O.tells (O.written output.old) (O.written output.new)) }
     ensures refused { IsTrue I.tells → IsTrue S.tells → IfSome result.fault
         (λ fault. HasRefused (IsCaused (is_grammar (map string_bytes words.now)) (Rose (S.faults store) (S.faults result.store))
-        (Rose (I.faults input.old) (I.faults input.new)) (S.content result.store)) (I.rest input.old) (opening (S.content store))
+        (Rose (I.faults input.old) (I.faults input.new)) (Rose (O.faults output.old) (O.faults output.new)) (S.content result.store)) (I.rest input.old) (opening (S.content store))
         (S.content result.store) (S.place result.store) (S.calls store) (S.calls result.store) fault result.runs.items O.tells (O.written output.old) (O.written output.new)) }
     ensures read { IsTrue I.tells → IfNone result.fault (I.rest input.new ≡ []) }
 
@@ -449,7 +449,7 @@ fn tell<O: Sink>(alloc: Global, output: &mut O, fault: Fault) -> Fault
     ensures told { IsTrue O.tells → result ≢ Fault.Output → result ≢ Fault.OutOfMemory →
         O.written output.new ≡ O.written output.old ++ fault_text result }
     ensures memory { IsTrue O.tells → result ≡ Fault.OutOfMemory →
-        IsPartPut (O.written output.old) (O.written output.new) (fault_text Fault.OutOfMemory) }
+        IsPut (O.written output.old) (O.written output.new) (fault_text Fault.OutOfMemory) (Rose (O.faults output.old) (O.faults output.new)) }
     ensures cut { IsTrue O.tells → fault ≢ Fault.Output → result ≡ Fault.Output →
         IsPartPut (O.written output.old) (O.written output.new) (fault_text fault) }
     ensures later { O.faults output.old ≤ O.faults output.new }
@@ -472,7 +472,7 @@ fn tell<O: Sink>(alloc: Global, output: &mut O, fault: Fault) -> Fault
 
 /// Writes as much of a line as the output takes.
 fn write_first<O: Sink>(output: &mut O, line: &[u8])
-    ensures part { IsTrue O.tells → IsPartPut (O.written output.old) (O.written output.new) line.now }
+    ensures put { IsTrue O.tells → IsPut (O.written output.old) (O.written output.new) line.now (Rose (O.faults output.old) (O.faults output.new)) }
     ensures later { O.faults output.old ≤ O.faults output.new }
 {
     let _ = pour(output, line);
