@@ -83,13 +83,13 @@ may_next n script line next may = ap next_may_run next ∙ may
 
 -- ---- a line is refused
 
-pub of_next : (script : List ℕ) (n : ℕ) (line : List ℕ) (p : Progress) (f : Fault) → next_of n script ≡ Ok (Some line) → IsRefusedAt line p (n + 1) f → IsOfStatement f → IsOfNext script n p f
-of_next script n line p (fault.Line number text) next refused kind = (refused.0, subst (λ (r : Result (Option (List ℕ)) LineFault). Refuses r p text) (sym next) refused.1)
-of_next script n line p fault.Words next refused kind = elim kind [ ]
-of_next script n line p fault.Store next refused kind = tt
-of_next script n line p fault.Input next refused kind = tt
-of_next script n line p fault.Output next refused kind = tt
-of_next script n line p fault.OutOfMemory next refused kind = tt
-of_next script n line p (fault.Spent e) next refused kind = tt
-of_next script n line p (fault.Broken e) next refused kind = tt
-of_next script n line p (fault.Repeated id) next refused kind = tt
+pub of_next : (script untaken : List ℕ) (n : ℕ) (line : List ℕ) (p : Progress) (f : Fault) → next_of n script ≡ Ok (Some line) → IsRefusedAt line p (n + 1) f → IsOfStatement f → IsOfNext script untaken n p f
+of_next script untaken n line p (fault.Line number text) next refused kind = (refused.0, subst (λ (r : Result (Option (List ℕ)) LineFault). Refuses r p text) (sym next) refused.1)
+of_next script untaken n line p fault.Words next refused kind = elim kind [ ]
+of_next script untaken n line p fault.Store next refused kind = tt
+of_next script untaken n line p fault.Input next refused kind = elim kind [ ]
+of_next script untaken n line p fault.Output next refused kind = tt
+of_next script untaken n line p fault.OutOfMemory next refused kind = tt
+of_next script untaken n line p (fault.Spent e) next refused kind = tt
+of_next script untaken n line p (fault.Broken e) next refused kind = tt
+of_next script untaken n line p (fault.Repeated id) next refused kind = tt

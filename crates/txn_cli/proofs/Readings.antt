@@ -7,7 +7,7 @@ use Rattle.txn_runner.specs.declared.waiting.Waiting.{Waiting}
 use Rattle.txn_cli.specs.Batches.{MayRun}
 use Rattle.txn_cli.specs.Doing.{HasDone, HasDoneLine, HasRunFirst, HasStoppedLine, IsRefusedAt, RunsBefore, RunsFirst, RunsWaiting, StopsAs}
 use Rattle.txn_cli.specs.Leaving.{HasLeft, IsOfNext, Leaves, Stays, line_may_run, next_may_run}
-use Rattle.txn_io.specs.Lines.{after_line, line_cost, reading}
+use Rattle.txn_io.specs.Lines.{IsPartTaken, after_line, line_cost, reading}
 use Rattle.txn_io.specs.Pour.{IsPartPut}
 use Rattle.txn_io.specs.declared.lines.LineFault.{LineFault}
 use Rattle.txn_io.specs.declared.lines.LineFault.TheVariants as line_fault
@@ -58,19 +58,19 @@ module _ {S : Type 0} (content : S → Content) (old new : Session S) (script : 
       opened : (plays : Plays script (opening (content old.store)) 0 (at content new [])) × StandOnTrail place from to plays
       opened = subst (λ (p : Progress). (plays : Plays script (opening (content old.store)) 0 p) × StandOnTrail place from to plays) (sym still) (Plays.Opens, le)
 
-module _ (script : List ℕ) (start : Progress) (content : Content) (place : ℕ → Content) (from to : ℕ) (runs : List Run) (sink_tells : Bool) (written : List ℕ) (le : from ≤ to) (none : start.printed ≡ []) (stays : Stays start.content start.runs content runs) where
+module _ (script untaken : List ℕ) (start : Progress) (content : Content) (place : ℕ → Content) (from to : ℕ) (runs : List Run) (sink_tells : Bool) (written : List ℕ) (le : from ≤ to) (none : start.printed ≡ []) (stays : Stays start.content start.runs content runs) where
   unwritten : IsTrue sink_tells → written ≡ written ++ start.printed
   unwritten told = sym (ap (λ (l : List ℕ). written ++ l) none ∙ append-nil written)
 
   -- the words aren't in the grammar
-  pub begins_refused : HasStopped script start content place from to fault.Words runs sink_tells written written
+  pub begins_refused : HasStopped script untaken start content place from to fault.Words runs sink_tells written written
   begins_refused = record { done = 0; last = start; plays = Plays.Opens; stand = le; unspent = tt; stops = (record { next = refl; left = stays }, unwritten) }
 
   -- the first look at the store is refused
-  pub begins_stopped : (why : Fault) → (why ≡ fault.Store) ⊎ (why ≡ fault.OutOfMemory) → HasStopped script start content place from to why runs sink_tells written written
+  pub begins_stopped : (why : Fault) → (why ≡ fault.Store) ⊎ (why ≡ fault.OutOfMemory) → HasStopped script untaken start content place from to why runs sink_tells written written
   begins_stopped why is = ⊎_elim
-      (λ store. subst (λ (f : Fault). HasStopped script start content place from to f runs sink_tells written written) (sym store) (record { done = 0; last = start; plays = Plays.Opens; stand = le; unspent = tt; stops = (record { next = tt; left = inl stays }, unwritten) }))
-      (λ memory. subst (λ (f : Fault). HasStopped script start content place from to f runs sink_tells written written) (sym memory) (record { done = 0; last = start; plays = Plays.Opens; stand = le; unspent = tt; stops = (record { next = tt; left = inl stays }, unwritten) }))
+      (λ store. subst (λ (f : Fault). HasStopped script untaken start content place from to f runs sink_tells written written) (sym store) (record { done = 0; last = start; plays = Plays.Opens; stand = le; unspent = tt; stops = (record { next = tt; left = inl stays }, unwritten) }))
+      (λ memory. subst (λ (f : Fault). HasStopped script untaken start content place from to f runs sink_tells written written) (sym memory) (record { done = 0; last = start; plays = Plays.Opens; stand = le; unspent = tt; stops = (record { next = tt; left = inl stays }, unwritten) }))
       is
 
 -- ---- the last line of a refusal was written, or another refusal came
@@ -96,13 +96,13 @@ is_output (fault.Spent error) = inr (λ e. cc)
 is_output (fault.Broken error) = inr (λ e. cc)
 is_output (fault.Repeated id) = inr (λ e. cc)
 
-module _ (script : List ℕ) (done : ℕ) (last : Progress) (content : Content) (place : ℕ → Content) (runs : List Run) where
+module _ (script untaken : List ℕ) (done : ℕ) (last : Progress) (content : Content) (place : ℕ → Content) (runs : List Run) where
   -- want of memory leaves what any other refusal may leave
   begun_any : (may_run : Bool) {A B C : Type 0} → A ⊎ ((may_run ≡ true) × B × C) → A ⊎ ((may_run ≡ true) × B)
   begun_any may_run (inl stays) = inl stays
   begun_any may_run (inr begun) = inr (begun.0, begun.1)
 
-  leaves_memory : (why : Fault) → Leaves script done last content place runs why → Leaves script done last content place runs fault.OutOfMemory
+  leaves_memory : (why : Fault) → Leaves script untaken done last content place runs why → Leaves script untaken done last content place runs fault.OutOfMemory
   leaves_memory fault.Output h = elim h.left [ ]
   leaves_memory fault.OutOfMemory h = h
   leaves_memory fault.Words h = record { next = tt; left = inl h.left }
@@ -114,7 +114,7 @@ module _ (script : List ℕ) (done : ℕ) (last : Progress) (content : Content) 
   leaves_memory (fault.Repeated id) h = record { next = tt; left = begun_any (next_may_run (next_of done script)) h.left }
 
   module _ (sink_tells : Bool) (before written : List ℕ) where
-    stops_other : (why : Fault) → why ≢ fault.Output → StopsWith script done last content place runs sink_tells before written why → Leaves script done last content place runs why × (IsTrue sink_tells → written ≡ before)
+    stops_other : (why : Fault) → why ≢ fault.Output → StopsWith script untaken done last content place runs sink_tells before written why → Leaves script untaken done last content place runs why × (IsTrue sink_tells → written ≡ before)
     stops_other fault.Output other h = absurd (other refl)
     stops_other fault.OutOfMemory other h = h
     stops_other fault.Words other h = h
@@ -127,7 +127,7 @@ module _ (script : List ℕ) (done : ℕ) (last : Progress) (content : Content) 
 
   module _ (Caused : Fault → Type 0) (sink_tells : Bool) (before written now : List ℕ) (rose : Type 0) where
     -- after a fault of the output there is no last line
-    ends_cut : HasCut script done last content runs sink_tells before written → now ≡ written → EndsWith Caused script done last content place runs sink_tells before now fault.Output
+    ends_cut : HasCut script done last content runs sink_tells before written → now ≡ written → EndsWith Caused script untaken done last content place runs sink_tells before now fault.Output
     ends_cut cut same = inl (record {
       next = cut.next;
       does = cut.does;
@@ -138,19 +138,19 @@ module _ (script : List ℕ) (done : ℕ) (last : Progress) (content : Content) 
       part = λ told. subst (λ (w : List ℕ). IsPartPut before w cut.lines) (sym same) (cut.part told);
     })
 
-    module _ (why : Fault) (other : why ≢ fault.Output) (caused : Caused why) (stops : Leaves script done last content place runs why × (IsTrue sink_tells → written ≡ before)) where
+    module _ (why : Fault) (other : why ≢ fault.Output) (caused : Caused why) (stops : Leaves script untaken done last content place runs why × (IsTrue sink_tells → written ≡ before)) where
       told_is : (told : Fault) → told ≢ fault.Output → told ≢ fault.OutOfMemory → (told ≡ why) ⊎ (told ≡ fault.OutOfMemory) ⊎ ((told ≡ fault.Output) × rose) → told ≡ why
       told_is told a b kept = ⊎_elim (λ same. same) (⊎_elim (λ memory. absurd (b memory)) (λ out. absurd (a out.0))) kept
 
       -- the whole line was written
-      whole_line : (told : Fault) → told ≡ why → (IsTrue sink_tells → now ≡ written ++ fault_text told) → Leaves script done last content place runs told × (IsTrue sink_tells → now ≡ before ++ fault_text told)
-      whole_line told same whole = (subst (λ (f : Fault). Leaves script done last content place runs f) (sym same) stops.0, λ tells. whole tells ∙ ap (λ (l : List ℕ). l ++ fault_text told) (stops.1 tells))
+      whole_line : (told : Fault) → told ≡ why → (IsTrue sink_tells → now ≡ written ++ fault_text told) → Leaves script untaken done last content place runs told × (IsTrue sink_tells → now ≡ before ++ fault_text told)
+      whole_line told same whole = (subst (λ (f : Fault). Leaves script untaken done last content place runs f) (sym same) stops.0, λ tells. whole tells ∙ ap (λ (l : List ℕ). l ++ fault_text told) (stops.1 tells))
 
       ends_told : (told : Fault) → (told ≡ why) ⊎ (told ≡ fault.OutOfMemory) ⊎ ((told ≡ fault.Output) × rose)
           → (IsTrue sink_tells → told ≢ fault.Output → told ≢ fault.OutOfMemory → now ≡ written ++ fault_text told)
           → (IsTrue sink_tells → told ≡ fault.OutOfMemory → IsPut written now (fault_text fault.OutOfMemory) (Caused fault.Output))
           → (IsTrue sink_tells → told ≡ fault.Output → IsPartPut written now (fault_text why))
-          → EndsWith Caused script done last content place runs sink_tells before now told
+          → EndsWith Caused script untaken done last content place runs sink_tells before now told
       ends_told fault.Output kept whole memory cut = inr (record { why = why; caused = caused; leaves = stops.0; part = λ tells. subst (λ (w : List ℕ). IsPartPut w now (fault_text why)) (stops.1 tells) (cut tells refl) })
       ends_told fault.OutOfMemory kept whole memory cut = (leaves_memory why stops.0, λ tells. subst (λ (w : List ℕ). IsPut w now (fault_text fault.OutOfMemory) (Caused fault.Output)) (stops.1 tells) (memory tells refl))
       ends_told fault.Words kept whole memory cut = whole_line fault.Words (told_is fault.Words (λ e. cc) (λ e. cc) kept) (λ tells. whole tells (λ e. cc) (λ e. cc))
@@ -161,15 +161,15 @@ module _ (script : List ℕ) (done : ℕ) (last : Progress) (content : Content) 
       ends_told (fault.Broken error) kept whole memory cut = whole_line (fault.Broken error) (told_is (fault.Broken error) (λ e. cc) (λ e. cc) kept) (λ tells. whole tells (λ e. cc) (λ e. cc))
       ends_told (fault.Repeated id) kept whole memory cut = whole_line (fault.Repeated id) (told_is (fault.Repeated id) (λ e. cc) (λ e. cc) kept) (λ tells. whole tells (λ e. cc) (λ e. cc))
 
-pub refuses_out : (Caused : Fault → Type 0) (script : List ℕ) (start : Progress) (content : Content) (place : ℕ → Content) (from to : ℕ) (why told : Fault) (runs : List Run) (sink_tells : Bool) (old_written written now : List ℕ) (rose : Type 0) → HasStopped script start content place from to why runs sink_tells old_written written
+pub refuses_out : (Caused : Fault → Type 0) (script untaken : List ℕ) (start : Progress) (content : Content) (place : ℕ → Content) (from to : ℕ) (why told : Fault) (runs : List Run) (sink_tells : Bool) (old_written written now : List ℕ) (rose : Type 0) → HasStopped script untaken start content place from to why runs sink_tells old_written written
     → (why ≢ fault.Output → Caused why)
     → (told ≡ why) ⊎ (told ≡ fault.OutOfMemory) ⊎ ((told ≡ fault.Output) × rose)
     → (why ≡ fault.Output → (told ≡ fault.Output) × (now ≡ written))
     → (IsTrue sink_tells → told ≢ fault.Output → told ≢ fault.OutOfMemory → now ≡ written ++ fault_text told)
     → (IsTrue sink_tells → told ≡ fault.OutOfMemory → IsPut written now (fault_text fault.OutOfMemory) (Caused fault.Output))
     → (IsTrue sink_tells → why ≢ fault.Output → told ≡ fault.Output → IsPartPut written now (fault_text why))
-    → HasRefused Caused script start content place from to told runs sink_tells old_written now
-refuses_out Caused script start content place from to why told runs sink_tells old_written written now rose h caused kept output whole memory cut = record {
+    → HasRefused Caused script untaken start content place from to told runs sink_tells old_written now
+refuses_out Caused script untaken start content place from to why told runs sink_tells old_written written now rose h caused kept output whole memory cut = record {
   done = h.done;
   last = h.last;
   plays = h.plays;
@@ -179,8 +179,8 @@ refuses_out Caused script start content place from to why told runs sink_tells o
       (⊎_elim (λ memory. subst IsUnspent (sym memory) tt) (λ output. subst IsUnspent (sym output.0) tt))
       kept;
   ends = ⊎_elim
-      (λ is. subst (λ (f : Fault). EndsWith Caused script h.done h.last content place runs sink_tells before now f) (sym (output is).0) (ends_cut script h.done h.last content place runs Caused sink_tells before written now rose (subst (StopsWith script h.done h.last content place runs sink_tells before written) is h.stops) (output is).1))
-      (λ other. ends_told script h.done h.last content place runs Caused sink_tells before written now rose why other (caused other) (stops_other script h.done h.last content place runs sink_tells before written why other h.stops) told kept whole memory (λ tells is. cut tells other is))
+      (λ is. subst (λ (f : Fault). EndsWith Caused script untaken h.done h.last content place runs sink_tells before now f) (sym (output is).0) (ends_cut script untaken h.done h.last content place runs Caused sink_tells before written now rose (subst (StopsWith script untaken h.done h.last content place runs sink_tells before written) is h.stops) (output is).1))
+      (λ other. ends_told script untaken h.done h.last content place runs Caused sink_tells before written now rose why other (caused other) (stops_other script untaken h.done h.last content place runs sink_tells before written why other h.stops) told kept whole memory (λ tells is. cut tells other is))
       (is_output why);
 }
   where
@@ -284,13 +284,13 @@ module _ {S : Type 0} (content : S → Content) (place next_place : ℕ → Cont
   }
 
   -- what comes next was refused, or the output failed
-  pub stops_here : (may_run : Bool) (Did : Progress → Progress → Type 0) (next : Session S) (next_store : S → ℕ → Content) (why : Fault) (now : List ℕ) (h : HasCome content place from to script start n taken input session sink_tells old_written written)
+  pub stops_here : (untaken : List ℕ) (may_run : Bool) (Did : Progress → Progress → Type 0) (next : Session S) (next_store : S → ℕ → Content) (why : Fault) (now : List ℕ) (h : HasCome content place from to script start n taken input session sink_tells old_written written)
       → next_store next.store ≡ next_place
       → (may_run ≡ true → next_may_run (next_of n script) ≡ true) → ((p q : Progress) → Did p q → DoesNext script n p q)
-      → IsOfNext script n (at content session h.printed) why → IsUnspent why
+      → IsOfNext script untaken n (at content session h.printed) why → IsUnspent why
       → StopsAs content next_store may_run Did session next sink_tells written now why
-      → HasStopped script start (content next.store) next_place from next_to why next.runs.items sink_tells old_written now
-  stops_here may_run Did next next_store why now h trail may does named unspent stops = record {
+      → HasStopped script untaken start (content next.store) next_place from next_to why next.runs.items sink_tells old_written now
+  stops_here untaken may_run Did next next_store why now h trail may does named unspent stops = record {
     done = n;
     last = at content session h.printed;
     plays = h.plays.plays;
@@ -299,14 +299,14 @@ module _ {S : Type 0} (content : S → Content) (place next_place : ℕ → Cont
     stops = by why named stops;
   }
     where
-      other : (f : Fault) → IsOfNext script n (at content session h.printed) f → HasLeft may_run (content session.store) session.batch session.runs.items (content next.store) (next_store next.store) next.runs.items f → (IsTrue sink_tells → now ≡ written)
-          → Leaves script n (at content session h.printed) (content next.store) next_place next.runs.items f × (IsTrue sink_tells → now ≡ old_written ++ h.printed)
+      other : (f : Fault) → IsOfNext script untaken n (at content session h.printed) f → HasLeft may_run (content session.store) session.batch session.runs.items (content next.store) (next_store next.store) next.runs.items f → (IsTrue sink_tells → now ≡ written)
+          → Leaves script untaken n (at content session h.printed) (content next.store) next_place next.runs.items f × (IsTrue sink_tells → now ≡ old_written ++ h.printed)
       other f named left unwritten = (
         record { next = named; left = left_more may_run (next_may_run (next_of n script)) (content session.store) session.batch session.runs.items (content next.store) next_place next.runs.items f may (subst (λ (q : ℕ → Content). HasLeft may_run (content session.store) session.batch session.runs.items (content next.store) q next.runs.items f) trail left) },
         λ told. unwritten told ∙ h.writes told,
       )
 
-      by : (f : Fault) → IsOfNext script n (at content session h.printed) f → StopsAs content next_store may_run Did session next sink_tells written now f → StopsWith script n (at content session h.printed) (content next.store) next_place next.runs.items sink_tells (old_written ++ h.printed) now f
+      by : (f : Fault) → IsOfNext script untaken n (at content session h.printed) f → StopsAs content next_store may_run Did session next sink_tells written now f → StopsWith script untaken n (at content session h.printed) (content next.store) next_place next.runs.items sink_tells (old_written ++ h.printed) now f
       by fault.Output named cut = record {
         next = at content next (h.printed ++ cut.lines);
         does = does (at content session h.printed) (at content next (h.printed ++ cut.lines)) (cut.did h.printed);
@@ -358,19 +358,19 @@ module _ {S : Type 0} (content : S → Content) (place : S → ℕ → Content) 
       comes_line content (place next.store) (place next.store) from (calls d.between.store) (calls next.store) script start n taken input d.between sink_tells old_written d.mid (λ k low. refl) d.first.later
       next now line new_taken new_input (between_come d.between d.mid d.first) first d.done rest cost here
 
-  pub stops_line : (why : Fault) → IsOfStatement why → IsUnspent why → HasStoppedLine content place calls line (n + 1) session next sink_tells written now why
-      → HasStopped script start (content next.store) (place next.store) from (calls next.store) why next.runs.items sink_tells old_written now
-  stops_line why kind unspent (HasStoppedLine.First refused stops) =
+  pub stops_line : (untaken : List ℕ) (why : Fault) → IsOfStatement why → IsUnspent why → HasStoppedLine content place calls line (n + 1) session next sink_tells written now why
+      → HasStopped script untaken start (content next.store) (place next.store) from (calls next.store) why next.runs.items sink_tells old_written now
+  stops_line untaken why kind unspent (HasStoppedLine.First refused stops) =
       stops_here content (place session.store) (place next.store) from (calls session.store) (calls next.store) script start n taken input session sink_tells old_written written before later
-      (line_may_run (line_in line)) (RunsBefore (line_lets_run (line_in line))) next place why now h refl (λ may. may_next n script line first may)
+      untaken (line_may_run (line_in line)) (RunsBefore (line_lets_run (line_in line))) next place why now h refl (λ may. may_next n script line first may)
       (λ p q ran. DoesNext.Batch (lets_next n script line first ran.0) ran.1)
-      (of_next script n line (at content session h.printed) why first (refused_alike content session [] h.printed line (n + 1) why refused) kind) unspent stops
-  stops_line why kind unspent (HasStoppedLine.Then between mid ran refused stops) =
+      (of_next script untaken n line (at content session h.printed) why first (refused_alike content session [] h.printed line (n + 1) why refused) kind) unspent stops
+  stops_line untaken why kind unspent (HasStoppedLine.Then between mid ran refused stops) =
       let come = between_come between mid ran in
       stops_here content (place next.store) (place next.store) from (calls between.store) (calls next.store) script start n taken input between sink_tells old_written mid (λ k low. refl) ran.later
-      (line_may_run (line_in line)) (PlaysLine line) next place why now come refl (λ may. may_next n script line first may)
+      untaken (line_may_run (line_in line)) (PlaysLine line) next place why now come refl (λ may. may_next n script line first may)
       (λ p q does. DoesNext.Line line first does)
-      (of_next script n line (at content between come.printed) why first (refused_alike content between [] come.printed line (n + 1) why refused) kind) unspent stops
+      (of_next script untaken n line (at content between come.printed) why first (refused_alike content between [] come.printed line (n + 1) why refused) kind) unspent stops
 
 -- ---- the end of the input, and lines that aren't read
 
@@ -397,41 +397,42 @@ module _ {S : Type 0} (content : S → Content) (place : S → ℕ → Content) 
   ends_played here (Err f) ran cleared = tt
 
   -- the end is refused where a batch waits that may not run
-  of_end : (f : Fault) → (IsOfLine f → (session.was_empty ≡ false) × (session.batch ≢ []) × (f ≡ not_built (n + 1))) → IsOfStatement f → IsOfNext script n (at content session h.printed) f
-  of_end (fault.Line number text) refused kind = (number_of (refused tt).2, subst (λ (r : Result (Option (List ℕ)) LineFault). Refuses r (at content session h.printed) text) (sym at_end) ((refused tt).0, (refused tt).1, text_of (refused tt).2))
+  of_end : (untaken : List ℕ) (f : Fault) → (IsOfLine f → (session.was_empty ≡ false) × (session.batch ≢ []) × (f ≡ not_built (n + 1))) → IsOfStatement f → IsOfNext script untaken n (at content session h.printed) f
+  of_end untaken (fault.Line number text) refused kind = (number_of (refused tt).2, subst (λ (r : Result (Option (List ℕ)) LineFault). Refuses r (at content session h.printed) text) (sym at_end) ((refused tt).0, (refused tt).1, text_of (refused tt).2))
     where
       number_of : fault.Line number text ≡ not_built (n + 1) → number ≡ n + 1
       number_of e = cc
 
       text_of : fault.Line number text ≡ not_built (n + 1) → text ≡ script_text NotBuilt
       text_of e = cc
-  of_end fault.Words refused kind = elim kind [ ]
-  of_end fault.Store refused kind = tt
-  of_end fault.Input refused kind = tt
-  of_end fault.Output refused kind = tt
-  of_end fault.OutOfMemory refused kind = tt
-  of_end (fault.Spent e) refused kind = tt
-  of_end (fault.Broken e) refused kind = tt
-  of_end (fault.Repeated id) refused kind = tt
+  of_end untaken fault.Words refused kind = elim kind [ ]
+  of_end untaken fault.Store refused kind = tt
+  of_end untaken fault.Input refused kind = elim kind [ ]
+  of_end untaken fault.Output refused kind = tt
+  of_end untaken fault.OutOfMemory refused kind = tt
+  of_end untaken (fault.Spent e) refused kind = tt
+  of_end untaken (fault.Broken e) refused kind = tt
+  of_end untaken (fault.Repeated id) refused kind = tt
 
-  pub ends_stopped : (result : Result (Unit {0}) Fault) → IfErr result IsOfStatement → IfErr result IsUnspent → IfErr result (λ f. IsOfLine f → (session.was_empty ≡ false) × (session.batch ≢ []) × (f ≡ not_built (n + 1)))
+  pub ends_stopped : (untaken : List ℕ) (result : Result (Unit {0}) Fault) → IfErr result IsOfStatement → IfErr result IsUnspent → IfErr result (λ f. IsOfLine f → (session.was_empty ≡ false) × (session.batch ≢ []) × (f ≡ not_built (n + 1)))
       → IfErr result (StopsAs content place true RunsItself session next sink_tells written now)
-      → IfErr result (λ f. HasStopped script start (content next.store) (place next.store) from (calls next.store) f next.runs.items sink_tells old_written now)
-  ends_stopped (Ok x) kind unspent refused stops = tt
-  ends_stopped (Err f) kind unspent refused stops =
+      → IfErr result (λ f. HasStopped script untaken start (content next.store) (place next.store) from (calls next.store) f next.runs.items sink_tells old_written now)
+  ends_stopped untaken (Ok x) kind unspent refused stops = tt
+  ends_stopped untaken (Err f) kind unspent refused stops =
       stops_here content (place session.store) (place next.store) from (calls session.store) (calls next.store) script start n taken input session sink_tells old_written written before later
-      true RunsItself next place f now h refl (λ may. ap next_may_run at_end) (λ p q ran. DoesNext.Batch (ap next_lets_run at_end) ran) (of_end f refused kind) unspent stops
+      untaken true RunsItself next place f now h refl (λ may. ap next_may_run at_end) (λ p q ran. DoesNext.Batch (ap next_lets_run at_end) ran) (of_end untaken f refused kind) unspent stops
 
 -- a line that isn't read
-module _ {S : Type 0} (content : S → Content) (place : ℕ → Content) (from to : ℕ) (script : List ℕ) (start : Progress) (n taken : ℕ) (input : List ℕ) (session : Session S) (sink_tells : Bool) (old_written written : List ℕ) (h : HasCome content place from to script start n taken input session sink_tells old_written written) where
+module _ {S : Type 0} (content : S → Content) (place : ℕ → Content) (from to : ℕ) (script untaken : List ℕ) (start : Progress) (n taken : ℕ) (input : List ℕ) (session : Session S) (sink_tells : Bool) (old_written written : List ℕ) (h : HasCome content place from to script start n taken input session sink_tells old_written written) where
   of_length : (why : LineFault) (f : Fault)
       → (why ≡ line_fault.TooLong → reading taken input ≡ Err line_fault.TooLong)
       → (why ≡ line_fault.ScriptTooLong → reading taken input ≡ Err line_fault.ScriptTooLong)
+      → (f ≡ fault.Input → IsPartTaken input untaken)
       → (f ≢ fault.OutOfMemory → f ≡ fault_of_line (n + 1) why)
-      → IsOfReading f → IsOfNext script n (at content session h.printed) f
-  of_length why fault.OutOfMemory long script_long exact kind = tt
-  of_length why fault.Input long script_long exact kind = tt
-  of_length why (fault.Line number text) long script_long exact kind = by why long script_long (exact (λ e. cc))
+      → IsOfReading f → IsOfNext script untaken n (at content session h.printed) f
+  of_length why fault.OutOfMemory long script_long part exact kind = tt
+  of_length why fault.Input long script_long part exact kind = subst (λ (l : List ℕ). IsPartTaken l untaken) (sym h.plays.rest) (part refl)
+  of_length why (fault.Line number text) long script_long part exact kind = by why long script_long (exact (λ e. cc))
     where
       refused : (r : Result (Option (List ℕ)) LineFault) → reading taken input ≡ r → Refuses r (at content session h.printed) text → Refuses (next_of n script) (at content session h.printed) text
       refused r is it = subst (λ (r : Result (Option (List ℕ)) LineFault). Refuses r (at content session h.printed) text) (sym (next_is script start n taken input (at content session h.printed) r h.plays is)) it
@@ -453,31 +454,32 @@ module _ {S : Type 0} (content : S → Content) (place : ℕ → Content) (from 
           text_of e = cc
       by line_fault.ReadFault long script_long e = absurd (cc)
       by line_fault.OutOfMemory long script_long e = absurd (cc)
-  of_length why fault.Words long script_long exact kind = elim kind [ ]
-  of_length why fault.Store long script_long exact kind = elim kind [ ]
-  of_length why fault.Output long script_long exact kind = elim kind [ ]
-  of_length why (fault.Spent e) long script_long exact kind = elim kind [ ]
-  of_length why (fault.Broken e) long script_long exact kind = elim kind [ ]
-  of_length why (fault.Repeated id) long script_long exact kind = elim kind [ ]
+  of_length why fault.Words long script_long part exact kind = elim kind [ ]
+  of_length why fault.Store long script_long part exact kind = elim kind [ ]
+  of_length why fault.Output long script_long part exact kind = elim kind [ ]
+  of_length why (fault.Spent e) long script_long part exact kind = elim kind [ ]
+  of_length why (fault.Broken e) long script_long part exact kind = elim kind [ ]
+  of_length why (fault.Repeated id) long script_long part exact kind = elim kind [ ]
 
   pub unread : (why : LineFault) (f : Fault)
       → (why ≡ line_fault.TooLong → reading taken input ≡ Err line_fault.TooLong)
       → (why ≡ line_fault.ScriptTooLong → reading taken input ≡ Err line_fault.ScriptTooLong)
+      → (f ≡ fault.Input → IsPartTaken input untaken)
       → (f ≢ fault.OutOfMemory → f ≡ fault_of_line (n + 1) why)
-      → IsOfReading f → IsUnspent f → HasStopped script start (content session.store) place from to f session.runs.items sink_tells old_written written
-  unread why f long script_long exact kind unspent = record {
+      → IsOfReading f → IsUnspent f → HasStopped script untaken start (content session.store) place from to f session.runs.items sink_tells old_written written
+  unread why f long script_long part exact kind unspent = record {
     done = n;
     last = at content session h.printed;
     plays = h.plays.plays;
     stand = h.stand;
     unspent = unspent;
-    stops = by f kind (of_length why f long script_long exact kind);
+    stops = by f kind (of_length why f long script_long part exact kind);
   }
     where
       still : Stays (content session.store) session.runs.items (content session.store) session.runs.items
       still = record { holds = refl; runs = refl }
 
-      by : (f : Fault) → IsOfReading f → IsOfNext script n (at content session h.printed) f → StopsWith script n (at content session h.printed) (content session.store) place session.runs.items sink_tells (old_written ++ h.printed) written f
+      by : (f : Fault) → IsOfReading f → IsOfNext script untaken n (at content session h.printed) f → StopsWith script untaken n (at content session h.printed) (content session.store) place session.runs.items sink_tells (old_written ++ h.printed) written f
       by (fault.Line number text) kind named = (record { next = named; left = still }, h.writes)
       by fault.Input kind named = (record { next = named; left = still }, h.writes)
       by fault.OutOfMemory kind named = (record { next = named; left = inl still }, h.writes)

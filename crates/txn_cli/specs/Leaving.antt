@@ -5,13 +5,14 @@ use Rattle.txn_key.specs.declared.id.TxnId.{TxnId}
 use Rattle.store_trait.specs.Contents.{Content}
 use Rattle.store_trait.specs.Meaning.{meaning}
 use Rattle.store_trait.specs.View.{record_at}
+use Rattle.txn_io.specs.Lines.{IsPartTaken}
 use Rattle.txn_io.specs.declared.lines.LineFault.{LineFault}
 use Rattle.txn_script.specs.Statements.{line_in}
 use Rattle.txn_script.specs.declared.fault.ScriptFault.{ScriptFault}
 use Rattle.txn_script.specs.declared.statement.Statement.{Statement}
 use Rattle.txn_script.specs.declared.statement.Statement.TheVariants as statement
 use Rattle.txn_cli.specs.Batches.{waits}
-use Rattle.txn_cli.specs.Play.{Progress, Refuses, next_of}
+use Rattle.txn_cli.specs.Play.{Progress, Refuses, after_lines, next_of}
 use Rattle.txn_cli.specs.declared.done.Run.{Run}
 use Rattle.txn_cli.specs.declared.fault.Fault.{Fault}
 use Rattle.txn_cli.specs.declared.fault.Fault.TheVariants as fault
@@ -75,13 +76,16 @@ HasLeft may_run old waiting before new place after fault.OutOfMemory = Stays old
 HasLeft may_run old waiting before new place after _ = Stays old before new after ⊎ ((may_run ≡ true) × HasBegun old waiting before new place after × IsUnfinished new waiting)
 
 -- The refusal of a line names the next one, and the text by which it is refused there; bad words come
--- before any line.
-abbrev pub IsOfNext : List ℕ → ℕ → Progress → Fault → Type 0
-IsOfNext script n p (fault.Line number text) = (number ≡ n + 1) × Refuses (next_of n script) p text
-IsOfNext script n p fault.Words = n ≡ 0
-IsOfNext script n p _ = Unit {0}
+-- before any line. Where the input failed, no more than a part of the next line was taken: each line that
+-- came whole was done.
+abbrev pub IsOfNext : List ℕ → List ℕ → ℕ → Progress → Fault → Type 0
+IsOfNext script untaken n p (fault.Line number text) = (number ≡ n + 1) × Refuses (next_of n script) p text
+IsOfNext script untaken n p fault.Words = n ≡ 0
+IsOfNext script untaken n p fault.Input = IsPartTaken (after_lines n script) untaken
+IsOfNext script untaken n p _ = Unit {0}
 
--- a refusal comes behind the first n lines, and this is what it leaves
-pub record Leaves (script : List ℕ) (n : ℕ) (p : Progress) (new : Content) (place : ℕ → Content) (after : List Run) (why : Fault) : Type 0 where
-  pub next : IsOfNext script n p why
+-- A refusal comes behind the first n lines of a script, of which these bytes weren't taken, and this is what
+-- it leaves.
+pub record Leaves (script untaken : List ℕ) (n : ℕ) (p : Progress) (new : Content) (place : ℕ → Content) (after : List Run) (why : Fault) : Type 0 where
+  pub next : IsOfNext script untaken n p why
   pub left : HasLeft (next_may_run (next_of n script)) p.content p.waiting p.runs new place after why

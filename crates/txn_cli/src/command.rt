@@ -58,7 +58,7 @@ pub fn command<S: Store, I: Source, O: Sink>(
         (S.content result.store) (S.place result.store) (S.calls store) (S.calls result.store) result.runs.items O.tells (O.written output.old) (O.written output.new)) }
     ensures refused { IsTrue I.tells → IsTrue S.tells → IfSome result.fault
         (λ fault. HasRefused (IsCaused (is_grammar (map string_bytes words.now)) (Rose (S.faults store) (S.faults result.store))
-        (Rose (I.faults input.old) (I.faults input.new)) (Rose (O.faults output.old) (O.faults output.new)) (S.content result.store)) (I.rest input.old) (opening (S.content store))
+        (Rose (I.faults input.old) (I.faults input.new)) (Rose (O.faults output.old) (O.faults output.new)) (S.content result.store)) (I.rest input.old) (I.rest input.new) (opening (S.content store))
         (S.content result.store) (S.place result.store) (S.calls store) (S.calls result.store) fault result.runs.items O.tells (O.written output.old) (O.written output.new)) }
     ensures read { IsTrue I.tells → IfNone result.fault (I.rest input.new ≡ []) }
 
@@ -137,7 +137,7 @@ fn run<S: Store, I: Source, O: Sink>(
         (S.content session.new.store) (S.place session.new.store) (S.calls session.old.store) (S.calls session.new.store)
         session.new.runs.items O.tells (O.written output.old) (O.written output.new)) }
     ensures stopped { IsTrue I.tells → IsTrue S.tells → IfErr result
-        (λ fault. HasStopped (I.rest input.old) (opening (S.content session.old.store)) (S.content session.new.store)
+        (λ fault. HasStopped (I.rest input.old) (I.rest input.new) (opening (S.content session.old.store)) (S.content session.new.store)
         (S.place session.new.store) (S.calls session.old.store) (S.calls session.new.store)
         fault session.new.runs.items O.tells (O.written output.old) (O.written output.new)) }
     ensures read { IsTrue I.tells → OnOk result (I.rest input.new ≡ []) }
@@ -212,7 +212,7 @@ fn play<S: Store, I: Source, O: Sink>(
         (S.content session.new.store) (S.place session.new.store) (S.calls session.old.store) (S.calls session.new.store)
         session.new.runs.items O.tells (O.written output.old) (O.written output.new)) }
     ensures stopped { IsTrue I.tells → IsTrue S.tells → IfErr result
-        (λ fault. HasStopped (I.rest input.old) (opening (S.content session.old.store)) (S.content session.new.store)
+        (λ fault. HasStopped (I.rest input.old) (I.rest input.new) (opening (S.content session.old.store)) (S.content session.new.store)
         (S.place session.new.store) (S.calls session.old.store) (S.calls session.new.store)
         fault session.new.runs.items O.tells (O.written output.old) (O.written output.new)) }
     ensures read { IsTrue I.tells → OnOk result (I.rest input.new ≡ []) }

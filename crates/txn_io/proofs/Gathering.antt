@@ -1,10 +1,11 @@
-use Rattle.std.proofs.Common.{◌≡◌, ◌+◌, ◌++◌, ℕ, List, Some, None, length, take, drop, length-append, length-take, sym, ap, ◌∙◌, arith, add-one}
+use Rattle.std.proofs.Common.{◌≡◌, ◌+◌, ◌++◌, ℕ, List, [], Some, None, length, take, drop, length-append, length-take, sym, ap, ◌∙◌, arith, add-one}
 use Rattle.std.proofs.Math.Nat.{min-eq_left}
-use Rattle.txn_io.specs.Lines.{line_of, line_cost, limit_passed}
+use Rattle.txn_io.specs.Lines.{IsPartTaken, line_of, line_cost, limit_passed}
 use Rattle.txn_io.specs.Gathering.{Ends, GoesOn, IsPassed}
 use Rattle.txn_io.specs.declared.lines.LineFault.{LineFault}
+use Rattle.txn_io.proofs.Invariants.{IsSoFar}
 use Rattle.txn_io.proofs.Limits.{passed_more}
-use Rattle.txn_io.proofs.Newlines.{HasNewlineAt, HasNoNewline, line_no_longer}
+use Rattle.txn_io.proofs.Newlines.{HasNewlineAt, HasNoNewline, front_of_line, line_no_longer}
 
 pub ends_passed : (taken before : ℕ) (line bytes : List ℕ) (index : ℕ) (fault : LineFault) → HasNewlineAt bytes index → before ≡ length line → limit_passed taken (before + index) (before + index + 1) ≡ Some fault → IsPassed taken line bytes fault
 ends_passed taken before line bytes index fault at here passed rest =
@@ -40,4 +41,14 @@ goes_on taken before line bytes later none here within gathered =
       after = none.after;
       cost = none.cost;
       within = rw size within;
+    }
+
+-- where all that was taken was gathered, and no more could be
+pub none_lost : (input line ahead rest later now : List ℕ) → IsSoFar input line (ahead ++ rest) → ahead ≡ [] → later ++ now ≡ rest → later ≡ [] → IsPartTaken input now
+none_lost input line ahead rest later now so_far used fill none =
+    let left : ahead ++ rest ≡ now = ap (λ (l : List ℕ). l ++ rest) used ∙ sym fill ∙ ap (λ (l : List ℕ). l ++ now) none in
+    record {
+      part = line;
+      taken = so_far.whole ∙ ap (λ (l : List ℕ). line ++ l) left;
+      within = front_of_line line (ahead ++ rest) (sym (ap line_of so_far.whole) ∙ so_far.line);
     }

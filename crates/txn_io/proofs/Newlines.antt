@@ -1,9 +1,9 @@
-use Rattle.std.proofs.Common.{◌≡◌, ◌+◌, ◌<◌, ◌≤◌, ◌++◌, ◌==◌, ℕ, suc, List, [], ◌∷◌, Bool, true, false, cond, Some, None, length, take, drop, refl, sym, ap, ◌∙◌, zero-add, arith, subst}
+use Rattle.std.proofs.Common.{◌≡◌, ◌+◌, ◌<◌, ◌≤◌, ◌++◌, ◌==◌, ℕ, suc, List, [], ◌∷◌, Bool, true, false, cond, ◌||◌, Some, None, length, take, drop, refl, sym, ap, ◌∙◌, zero-add, arith, subst}
 use Rattle.std.proofs.lemmas.Option.{none-some}
 use Rattle.std.specs.Option.{unwrap_or}
 use Rattle.std.proofs.lemmas.Iterator.Adapters.{position_from-zero}
 use Rattle.std.specs.List.{position, position_from}
-use Rattle.txn_io.specs.Lines.{line_of, after_line, line_cost}
+use Rattle.txn_io.specs.Lines.{line_of, after_line, line_cost, has_newline}
 
 abbrev pub is_newline : ℕ → Bool
 is_newline byte = byte == 10
@@ -84,3 +84,13 @@ newline bytes index found =
     let there = newline_from 0 bytes index (sym (position_from-zero is_newline bytes) ∙ found) in
     let same : there.0 ≡ index = omega (arith, there.1) in
     subst (HasNewlineAt bytes) same there.2
+
+-- bytes that stand whole at the front of a line have no newline
+pub front_of_line : (bytes rest : List ℕ) → line_of (bytes ++ rest) ≡ bytes ++ line_of rest → has_newline bytes ≡ false
+front_of_line [] rest whole = refl
+front_of_line (byte ∷ bytes) rest whole =
+    elim (byte == 10)
+    as (λ b. cond b [] (byte ∷ line_of (bytes ++ rest)) ≡ byte ∷ (bytes ++ line_of rest) → (b || has_newline bytes) ≡ false) [
+      | true ↦ λ e. absurd (cc)
+      | false ↦ λ e. front_of_line bytes rest (cc)
+    ] whole

@@ -1,4 +1,5 @@
-use Rattle.std.specs.Prelude.{◌+◌, ◌==◌, ◌&&◌, ltb, if◌then◌else◌, ℕ, List, [], ◌∷◌, Option, Some, None, Result, Ok, Err, length}
+use Rattle.std.specs.Prelude.{◌≡◌, ◌+◌, ◌++◌, ◌==◌, ◌&&◌, ltb, if◌then◌else◌, ℕ, Bool, false, List, [], ◌∷◌, Option, Some, None, Result, Ok, Err, length}
+use Rattle.std.specs.List.{list_any}
 use Rattle.txn_io.specs.declared.lines.LineFault.{LineFault}
 use Rattle.txn_io.specs.declared.lines.LineFault.TheVariants.{TooLong, ScriptTooLong}
 
@@ -36,6 +37,15 @@ unless_passed (Some fault) line = Err fault
 -- what a read of the first line answers, where so many bytes of the script were taken before
 abbrev pub reading : ℕ → List ℕ → Result (Option (List ℕ)) LineFault
 reading taken input = unless_passed (limit_passed taken (length (line_of input)) (line_cost input)) (first_line input)
+
+abbrev pub has_newline : List ℕ → Bool
+has_newline bytes = list_any (λ byte. byte == 10) bytes
+
+-- No more than a part of the first line was taken: it has no newline, and this is left.
+pub record IsPartTaken (input left : List ℕ) : Type 0 where
+  pub part : List ℕ
+  pub taken : input ≡ part ++ left
+  pub within : has_newline part ≡ false
 
 -- a reader of lines: the bytes that it took from the source and hasn't handed out, how many of the script
 -- it handed out, and the refusal that it stands at

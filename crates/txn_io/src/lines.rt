@@ -2,7 +2,7 @@ ghost use Rattle.std.specs.Prelude.{◌≡◌, ◌<◌, ◌≤◌, ◌+◌, ◌+
 ghost use Rattle.std.specs.List.{position};
 ghost use Rattle.txn_io.specs.Faults.{Rose};
 ghost use Rattle.txn_io.specs.declared.lines.LineFault.TheVariants.{OutOfMemory};
-ghost use Rattle.txn_io.specs.Lines.{LinesView, reading, after_line, line_cost, limit_passed};
+ghost use Rattle.txn_io.specs.Lines.{IsPartTaken, LinesView, reading, after_line, line_cost, limit_passed};
 ghost use Rattle.txn_io.specs.Gathering.{Ends, GoesOn, IsPassed, IsLimit};
 
 use super::read_ahead::ReadAhead;
@@ -72,6 +72,7 @@ impl Lines {
     ///
     /// A last line without a newline counts. A line has at most 16,777,216 bytes, and a script at
     /// most 268,435,456, its newlines among them. After a refusal each further call answers the same.
+    /// Where the source failed, no whole line was taken that hasn't been handed out.
     pub fn next<S: Source>(
         &mut self,
         alloc: Global,
@@ -83,6 +84,7 @@ impl Lines {
         ensures too_long { IsTrue S.tells → self.old.fault ≡ None → result ≡ Err LineFault.TooLong → reading self.old.taken (self.old.pending ++ S.rest source.old) ≡ Err LineFault.TooLong }
         ensures script_too_long { IsTrue S.tells → self.old.fault ≡ None → result ≡ Err LineFault.ScriptTooLong → reading self.old.taken (self.old.pending ++ S.rest source.old) ≡ Err LineFault.ScriptTooLong }
         ensures read_fault { self.old.fault ≡ None → result ≡ Err LineFault.ReadFault → Rose (S.faults source.old) (S.faults source.new) }
+        ensures none_lost { IsTrue S.tells → self.old.fault ≡ None → result ≡ Err LineFault.ReadFault → IsPartTaken (self.old.pending ++ S.rest source.old) (S.rest source.new) }
         ensures again { (fault : LineFault) → self.old.fault ≡ Some fault → (result ≡ Err fault) × (source.new ≡ source.old) }
         ensures goes_on { OnOk result ((self.old.fault ≡ None) × (self.new.fault ≡ None)) }
         ensures stands { IfErr result (λ fault. self.new.fault ≡ Some fault) }
@@ -114,6 +116,7 @@ fn read_line<S: Source>(
     ensures taken { IsTrue S.tells → OnOk result (taken.new ≡ taken.old + line_cost (ahead.old ++ S.rest source.old)) }
     ensures limit { IsTrue S.tells → IfErr result (λ fault. IsLimit fault → reading taken.old (ahead.old ++ S.rest source.old) ≡ Err fault) }
     ensures read_fault { result ≡ Err LineFault.ReadFault → Rose (S.faults source.old) (S.faults source.new) }
+    ensures none_lost { IsTrue S.tells → result ≡ Err LineFault.ReadFault → IsPartTaken (ahead.old ++ S.rest source.old) (S.rest source.new) }
     ensures within { taken.new ≤ 268435456 }
     ensures faults { S.faults source.old ≤ S.faults source.new }
     ensures more { IfOk result (λ line. IsSome line → taken.old < taken.new) }

@@ -52,7 +52,7 @@ run_waiting-requires g c = record { held = λ told was. c.loop-done.invariant.he
 pub returns-in_err-session-clause-stopped : goal.returns-in_err-session-clause-stopped
 returns-in_err-session-clause-stopped g c = λ src told.
     let p = err_from_is_err_and c.from_residual.result c.from_residual.ensures.1 in
-    rw (p.1, p.2) (begins_stopped _ _ _ _ _ _ _ _ _ c.in_err-session.ensures.calls.counted refl (record { holds = c.in_err-session.ensures.same told; runs = c.requires.begins.runs }) _ c.in_err-session.ensures.kind)
+    rw (p.1, p.2) (begins_stopped _ _ _ _ _ _ _ _ _ _ c.in_err-session.ensures.calls.counted refl (record { holds = c.in_err-session.ensures.same told; runs = c.requires.begins.runs }) _ c.in_err-session.ensures.kind)
 
 pub returns-in_err-session-clause-runs : goal.returns-in_err-session-clause-runs
 returns-in_err-session-clause-runs g c = λ told. none_go_on _ _ _ c.requires.begins.runs
@@ -65,7 +65,7 @@ returns-in_err-play_line-in-Ok-Some-clause-stopped g c = λ src told.
     let it = c.loop-done.invariant in
     let played = c.in_err-play_line-in-Ok-Some.ensures in
     let next = next_is _ _ _ _ _ _ _ (it.come src told).plays (rw c.in-Ok-Some.field-0-is at (c.in-Ok-Some.ensures.line src)) in
-    rw (p.1, p.2) (stops_line g.S.Store.content g.S.Store.place g.S.Store.calls _ _ _ _ _ _ _ _ _ _ _ _ _ (played.calls.trail told).before played.calls.counted (it.come src told) next _ played.kind (played.enough told (λ was. suffices_at _ _ (sym (it.was_empty told) ∙ was) _ _ (it.come src told).plays.plays (omega (arith, it.counted, it.within)))) (rw c.as_slice.ensures.value at (played.stopped told)))
+    rw (p.1, p.2) (stops_line g.S.Store.content g.S.Store.place g.S.Store.calls _ _ _ _ _ _ _ _ _ _ _ _ _ (played.calls.trail told).before played.calls.counted (it.come src told) next _ _ played.kind (played.enough told (λ was. suffices_at _ _ (sym (it.was_empty told) ∙ was) _ _ (it.come src told).plays.plays (omega (arith, it.counted, it.within)))) (rw c.as_slice.ensures.value at (played.stopped told)))
 
 pub returns-in_err-play_line-in-Ok-Some-clause-runs : goal.returns-in_err-play_line-in-Ok-Some-clause-runs
 returns-in_err-play_line-in-Ok-Some-clause-runs g c = λ told.
@@ -90,7 +90,7 @@ returns-in-Ok-None-clause-stopped g c = λ src told.
     let it = c.loop-done.invariant in
     let out = c.run_waiting.ensures in
     let read = rw c.in-Ok-None.field-0-is at (c.in-Ok-None.ensures.line src) in
-    ends_stopped g.S.Store.content g.S.Store.place g.S.Store.calls _ _ _ _ _ _ _ _ _ _ _ _ (out.calls.trail told).before out.calls.counted (it.come src told) read c.run_waiting.result out.kind (out.enough told (λ was. suffices_at _ _ (sym (it.was_empty told) ∙ was) _ _ (it.come src told).plays.plays (omega (arith, it.counted, it.within)))) out.refused (out.stopped told)
+    ends_stopped g.S.Store.content g.S.Store.place g.S.Store.calls _ _ _ _ _ _ _ _ _ _ _ _ (out.calls.trail told).before out.calls.counted (it.come src told) read _ c.run_waiting.result out.kind (out.enough told (λ was. suffices_at _ _ (sym (it.was_empty told) ∙ was) _ _ (it.come src told).plays.plays (omega (arith, it.counted, it.within)))) out.refused (out.stopped told)
 
 pub returns-in-Ok-None-clause-read : goal.returns-in-Ok-None-clause-read
 returns-in-Ok-None-clause-read g c = λ src. on_any c.run_waiting.result (rest_out c.loop-done.lines.taken (c.loop-done.lines.pending ++ g.I.Source.rest c.loop-done.input) c.next.new.self.pending (g.I.Source.rest c.next.new.source) (rw c.in-Ok-None.field-0-is at (c.in-Ok-None.ensures.line src)) (c.in-Ok-None.ensures.rest src))
@@ -107,9 +107,10 @@ returns-in-Ok-None-clause-cause g c = causes_before _ _ _ _ _ _ c.loop-done.inva
 pub returns-in-Err-clause-stopped : goal.returns-in-Err-clause-stopped
 returns-in-Err-clause-stopped g c = λ src told.
     let it = c.loop-done.invariant in
-    unread g.S.Store.content _ _ _ _ _ _ _ _ _ _ _ _ (it.come src told) c.in-Err.fault _
+    unread g.S.Store.content _ _ _ _ _ _ _ _ _ _ _ _ _ (it.come src told) c.in-Err.fault _
     (λ why. c.in-Err.ensures.too_long src it.unrefused (cc))
     (λ why. c.in-Err.ensures.script_too_long src it.unrefused (cc))
+    (λ is. let why = c.line_fault.ensures.input is in c.in-Err.ensures.none_lost src it.unrefused (cc))
     c.line_fault.ensures.exact c.line_fault.ensures.kind c.line_fault.ensures.unspent
 
 pub returns-in-Err-clause-runs : goal.returns-in-Err-clause-runs
