@@ -28,7 +28,7 @@ use Rattle.txn_runner.proofs.Beside.{docs_stay}
 use Rattle.txn_runner.proofs.Numbers.{uses_none, uses_then, uses_within}
 use Rattle.txn_runner.specs.Numbers.{Uses}
 use Rattle.txn_cli.proofs.Runs.{run_means, run_legal}
-use Rattle.txn_cli.specs.Batches.{waits, Every, MayBegin, MayRun, HasEnded, StandsIn, record_line, batch_text, KeepsAllBut, WorksOnBatch, IsBegun, IsDoneWith, IsSubmitting, IsSettling}
+use Rattle.txn_cli.specs.Batches.{waits, Every, MayBegin, MayRun, HasOutcome, StandsIn, record_line, batch_text, KeepsAllBut, WorksOnBatch, IsBegun, IsDoneWith, IsSubmitting, IsSettling}
 use Rattle.txn_runner.specs.Calm.{IsCalm}
 use Rattle.txn_cli.specs.Play.{RanBatch}
 use Rattle.txn_runner.specs.Running.{HasRun}
@@ -291,7 +291,7 @@ ran_batch content place calls old now waiting run lines may was is mark base tur
   base = base;
   legal = run_legal (place now) run.mark (calls now) run.base run.order has;
   means = ap meaning (sym is) ∙ run_means (place now) run.mark (calls now) run.base run.order has;
-  stand = both_every (MayBegin (content old)) (HasEnded (content now)) (StandsIn (content now) run.order) stands waiting may.may_begin done.ended;
+  stand = both_every (MayBegin (content old)) (HasOutcome (content now)) (StandsIn (content now) run.order) stands waiting may.may_begin done.ended;
   only = works.decided refl;
   others = works.others.records;
   uses = uses;
@@ -299,7 +299,7 @@ ran_batch content place calls old now waiting run lines may was is mark base tur
   text = done.text;
 }
   where
-    stands : (txn : Waiting) → MayBegin (content old) txn → HasEnded (content now) txn → StandsIn (content now) run.order txn
+    stands : (txn : Waiting) → MayBegin (content old) txn → HasOutcome (content now) txn → StandsIn (content now) run.order txn
     stands txn m e = record {
       ended = e;
       entry = ⊎_elim (λ was_chosen. absurd (clash (subst (λ (x : Content). chosen (look x) txn.id ≡ true) from was_chosen) (unchosen (content old) txn.id m.fresh))) (λ recorded. recorded)

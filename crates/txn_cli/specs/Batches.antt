@@ -53,15 +53,15 @@ pub record MayRun (c : Content) (waiting : List Waiting) : Type 0 where
 
 -- ---- once it was run
 
--- a transaction came to its end, and this is how
-pub record HasEnded (c : Content) (txn : Waiting) : Type 0 where
+-- a transaction is settled, with this outcome
+pub record HasOutcome (c : Content) (txn : Waiting) : Type 0 where
   pub outcome : Outcome
   pub settled : IsSettled c txn outcome
 
 -- A transaction is done: its record is applied or aborted, with its operations, and the order has its
 -- entry.
 pub record StandsIn (c : Content) (order : List Entry) (txn : Waiting) : Type 0 where
-  pub ended : HasEnded c txn
+  pub ended : HasOutcome c txn
   pub entry : IsRecorded order ended.settled.rec
 
 -- the line of a record that is there
@@ -97,7 +97,7 @@ pub record IsBegun (c : Content) (waiting : List Waiting) : Type 0 where
 -- every transaction of the batch came to its end, and the lines say how
 pub record IsDoneWith (c : Content) (waiting : List Waiting) (lines : List ℕ) : Type 0 where
   pub calm : IsCalm c
-  pub ended : Every (HasEnded c) waiting
+  pub ended : Every (HasOutcome c) waiting
   pub text : lines ≡ batch_text c waiting
 
 -- ---- the loops, with what is left of the batch
@@ -120,7 +120,7 @@ pub record IsSettling {S : Type 0} (content : S → Content) (place : S → ℕ 
   pub uses : Uses (content old) (content now) (length waiting) (length waiting) (length left) (length left)
   pub begun : IsBegun (content now) left
   pub within : Every (λ txn. waits waiting txn.id ≡ true) left
-  pub done : (d : Content) → IsStep (content now) d → Every (HasEnded d) left → Every (HasEnded d) waiting
+  pub done : (d : Content) → IsStep (content now) d → Every (HasOutcome d) left → Every (HasOutcome d) waiting
   pub text : (d : Content) → IsStep (content now) d → batch_text d waiting ≡ lines ++ batch_text d left
 
 -- the two loops, over a store that may tell nothing
