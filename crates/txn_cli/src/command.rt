@@ -52,7 +52,8 @@ pub fn command<S: Store, I: Source, O: Sink>(
 
     // Over a source and a store that tell: 0 and 1 say that each line was read and done, and what all
     // print was written. Any refusal says which first lines were done, and what it leaves behind them; 3
-    // that the line it names is the next, and the first that is refused.
+    // that the line it names is the next, and the first that is refused; 6 that each line that came whole
+    // was done.
     ensures played { IsTrue I.tells → IsTrue S.tells → IfNone result.fault
         (HasPlayed (I.rest input.old) (opening (S.content store))
         (S.content result.store) (S.place result.store) (S.calls store) (S.calls result.store) result.runs.items O.tells (O.written output.old) (O.written output.new)) }

@@ -239,6 +239,20 @@ fn failing_input_and_output(rt: HostRuntime) -> Result<(), Fail> {
     Ok(())
 }
 
+/// Each line that came whole before the input failed is done; a part of a line isn't.
+#[test]
+fn failing_behind_lines(rt: HostRuntime) -> Result<(), Fail> {
+    let alloc = rt.alloc();
+    let whole = "000000000000000000000001 applied\n\"k\" \"a\" {\"v\":1}\ninput fault\n";
+    let part = "000000000000000000000001 applied\ninput fault\n";
+    for (script, text) in [(SCRIPT, whole), (SCRIPT.trim_end(), part)] {
+        let played = play(alloc, "run", script, Fails { input: 2, ..NONE })?;
+        assert_eq!(rt; played.status, 6, "{script}");
+        assert_eq!(rt; played.written.as_slice(), text.as_bytes(), "{script}");
+    }
+    Ok(())
+}
+
 /// The same code runs over a store that tells nothing of what it holds.
 #[test]
 fn silent_stores(rt: HostRuntime) -> Result<(), Fail> {
