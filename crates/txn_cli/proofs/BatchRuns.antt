@@ -1,26 +1,73 @@
 -- The Run of a batch: from the listing of its base to the end of its calls.
-use Rattle.std.proofs.Common.{◌≡◌, ℕ, Bool, List, [], ◌∷◌, ◌++◌, Result, Ok, Err, IfOk, IfErr, IsTrue, true, inl, inr, refl, sym, ap, ◌∙◌, subst, arith, length}
+use Rattle.std.proofs.Common.{◌≡◌, ℕ, Bool, List, [], ◌∷◌, ◌++◌, Result, Ok, Err, IfOk, IfErr, IsTrue, true, inl, inr, refl, sym, ap, ◌∙◌, subst, arith, length, ◌+◌, false, None, ⊎_elim}
 use Rattle.txn_key.specs.Documents.{Docs}
 use Rattle.store_trait.specs.Calls.{CallsGoOn}
 use Rattle.store_trait.specs.Contents.{Content}
 use Rattle.store_trait.specs.Meaning.{meaning}
 use Rattle.store_trait.specs.Soundness.{IsSound}
-use Rattle.txn_cli.specs.Batches.{MayRun, WorksOnBatch, IsDoneWith}
+use Rattle.txn_cli.specs.Batches.{MayRun, WorksOnBatch, IsDoneWith, MayBegin, HasOutcome, StandsIn}
 use Rattle.txn_cli.specs.Leaving.{HasBegun, HasLeft, LeavesUnfinished, Stays}
 use Rattle.txn_cli.specs.Play.{RanBatch, HasRunBatch}
 use Rattle.txn_cli.specs.Refusals.{IsOfRun}
 use Rattle.txn_cli.specs.declared.fault.Fault.{Fault}
 use Rattle.txn_cli.specs.declared.fault.Fault.TheVariants as fault
-use Rattle.store_trait.specs.View.{record_at}
+use Rattle.store_trait.specs.View.{record_at, look, chosen, settled, state_passes}
 use Rattle.txn_runner.specs.Numbers.{Uses}
 use Rattle.txn_runner.specs.Running.{HasRun, OnlyReads}
 use Rattle.txn_cli.specs.Runs.{RunsGoOn}
 use Rattle.txn_cli.specs.declared.done.Run.{Run}
 use Rattle.txn_runner.specs.declared.waiting.Waiting.{Waiting}
-use Rattle.txn_cli.proofs.Batches.{ran_batch}
 use Rattle.txn_cli.proofs.OnlyReading.{runs_only_read}
 use Rattle.txn_runner.proofs.Running.{run_opens}
-use Rattle.txn_cli.proofs.Runs.{runs_same, runs_add}
+use Rattle.txn_cli.proofs.Runs.{runs_same, runs_add, run_means, run_legal}
+use Rattle.txn_key.specs.declared.id.TxnId.{TxnId}
+use Rattle.txn_record.specs.Orders.{after}
+use Rattle.txn_record.specs.States.{is_chosen_state}
+use Rattle.txn_record.specs.declared.entry.Outcome.{Outcome}
+use Rattle.txn_record.specs.declared.entry.Outcome.TheVariants as outcome
+use Rattle.txn_record.specs.declared.state.State.{State}
+use Rattle.store_laws.proofs.TrailTells.{trail_records}
+use Rattle.txn_runner.specs.Settling.{settled_state}
+use Rattle.txn_cli.proofs.Batches.{both_every}
+
+chosen_end : (o : Outcome) (s : State) → s ≡ settled_state o → is_chosen_state s ≡ true
+chosen_end outcome.Applied s e = ap is_chosen_state e
+chosen_end outcome.Aborted s e = ap is_chosen_state e
+
+unchosen : (c : Content) (id : TxnId) → record_at c id ≡ None → chosen (look c) id ≡ false
+unfolding look chosen
+unchosen c id none = ap (state_passes is_chosen_state) none
+
+pub ran_batch : {S : Type 0} (content : S → Content) (place : S → ℕ → Content) (calls : S → ℕ) (old now : S) (waiting : List Waiting) (run : Run) (lines : List ℕ)
+    → MayRun (content old) waiting → place old (calls old) ≡ content old → place now (calls now) ≡ content now
+    → run.mark ≡ calls old → run.base ≡ meaning (content old) → run.turns ≡ []
+    → WorksOnBatch content place calls old now [] run.order waiting → Uses (content old) (content now) (length waiting) (length waiting) 0 0 → IsDoneWith (content now) waiting lines
+    → HasRun (place now) run.mark (calls now) run.base run.order
+    → place now run.mark ≡ content old
+    → RanBatch (content old) (content now) waiting run lines
+ran_batch content place calls old now waiting run lines may was is mark base turns works uses done has from = record {
+  opens = may.calm.sound;
+  closes = done.calm.sound;
+  base = base;
+  legal = run_legal (place now) run.mark (calls now) run.base run.order has;
+  means = ap meaning (sym is) ∙ run_means (place now) run.mark (calls now) run.base run.order has;
+  stand = both_every (MayBegin (content old)) (HasOutcome (content now)) (StandsIn (content now) run.order) stands waiting may.may_begin done.ended;
+  only = works.decided refl;
+  others = works.others.records;
+  uses = uses;
+  turns = turns;
+  text = done.text;
+}
+  where
+    stands : (txn : Waiting) → MayBegin (content old) txn → HasOutcome (content now) txn → StandsIn (content now) run.order txn
+    stands txn m e = record {
+      ended = e;
+      entry = ⊎_elim (λ was_chosen. absurd (clash (subst (λ (x : Content). chosen (look x) txn.id ≡ true) from was_chosen) (unchosen (content old) txn.id m.fresh))) (λ recorded. recorded)
+          (trail_records (place now) run.mark has.made run.base run.order has.trail txn.id e.settled.rec (ap (λ (x : Content). record_at x txn.id) (ap (place now) (sym has.counted) ∙ is) ∙ e.settled.there) (chosen_end e.outcome e.settled.rec.state e.settled.ends));
+    }
+      where
+        clash : {b : Bool} → b ≡ true → b ≡ false → ⊥
+        clash p q = cc
 
 pub if_ok : {T E : Type 0} (r : Result T E) (P Q : T → Type 0) → IfOk r P → ((x : T) → P x → Q x) → IfOk r Q
 if_ok (Ok x) P Q h f = f x h

@@ -1,12 +1,12 @@
 -- A batch from its submission to its end.
-use Rattle.std.proofs.Common.{◌≡◌, ◌≢◌, ℕ, suc, arith, ◌+◌, ◌<◌, ◌≤◌, length, drop, Bool, true, false, not, ◌||◌, List, [], ◌∷◌, ◌++◌, Option, Some, None, ⊎_elim, refl, sym, ap, ◌∙◌, subst}
+use Rattle.std.proofs.Common.{◌≡◌, ◌≢◌, ℕ, suc, arith, ◌+◌, ◌<◌, ◌≤◌, length, drop, Bool, true, false, not, ◌||◌, List, [], ◌∷◌, ◌++◌, Option, Some, None, refl, sym, ap, ◌∙◌, subst}
 use Rattle.std.proofs.lemmas.Bool.{and_parts}
 use Rattle.std.proofs.lemmas.Slice.Eq.{bytes_eq-Decides}
 use Rattle.std.proofs.lemmas.List.{append_assoc, append-nil, drop_more}
 use Rattle.std.proofs.Math.ListN.{drop_of_length-le, get_or}
 use Rattle.txn_key.specs.declared.id.TxnId.{TxnId}
 use Rattle.txn_record.specs.Orders.{after}
-use Rattle.txn_record.specs.States.{is_chosen_state, is_settled_state}
+use Rattle.txn_record.specs.States.{is_settled_state}
 use Rattle.txn_record.specs.declared.entry.Entry.{Entry}
 use Rattle.txn_record.specs.declared.entry.Outcome.{Outcome}
 use Rattle.txn_record.specs.declared.entry.Outcome.TheVariants as outcome
@@ -15,26 +15,20 @@ use Rattle.txn_record.specs.declared.state.State.{State}
 use Rattle.txn_record.specs.declared.state.State.TheVariants as state
 use Rattle.store_trait.specs.Contents.{Content}
 use Rattle.store_trait.specs.Later.{may_follow}
-use Rattle.store_trait.specs.Meaning.{meaning}
 use Rattle.store_trait.specs.Names.{same_id}
 use Rattle.store_trait.specs.Soundness.{IsSound}
 use Rattle.store_trait.specs.Steps.{IsStep}
-use Rattle.store_trait.specs.View.{look, record_at, chosen, settled, state_passes}
+use Rattle.store_trait.specs.View.{look, record_at, settled, state_passes}
 use Rattle.store_laws.proofs.AmongSettled.{rest_alone, alone_rest}
 use Rattle.store_laws.proofs.Chained.{step_then}
 use Rattle.store_laws.proofs.Misses.{quiet_itself}
-use Rattle.store_laws.proofs.TrailTells.{trail_records}
 use Rattle.txn_runner.proofs.Beside.{docs_stay}
 use Rattle.txn_runner.proofs.Numbers.{uses_none, uses_then, uses_within}
 use Rattle.txn_runner.specs.Numbers.{Uses}
-use Rattle.txn_cli.proofs.Runs.{run_means, run_legal}
-use Rattle.txn_cli.specs.Batches.{waits, Every, MayBegin, MayRun, HasOutcome, StandsIn, record_line, batch_text, KeepsAllBut, WorksOnBatch, IsBegun, IsDoneWith, IsSubmitting, IsSettling}
+use Rattle.txn_cli.specs.Batches.{waits, Every, MayBegin, MayRun, record_line, batch_text, KeepsAllBut, WorksOnBatch, IsBegun, IsDoneWith, IsSubmitting, IsSettling}
 use Rattle.txn_runner.specs.Calm.{IsCalm}
-use Rattle.txn_cli.specs.Play.{RanBatch}
-use Rattle.txn_runner.specs.Running.{HasRun}
 use Rattle.txn_runner.specs.Settling.{settled_state, IsSettled, IsSubmitted, HasDocuments, IsWorth, WorksOn, KeepsOthers, preparing_record}
 use Rattle.txn_cli.specs.Texts.{state_line}
-use Rattle.txn_cli.specs.declared.done.Run.{Run}
 use Rattle.txn_runner.specs.declared.stage.Stage.TheVariants as stage
 use Rattle.txn_runner.specs.declared.waiting.Waiting.{Waiting}
 
@@ -82,7 +76,7 @@ all_wait (txn ∷ waiting) = (ap (λ (b : Bool). b || waits waiting txn.id) (id_
     or_true true b e = refl
     or_true false b e = e
 
-both_every : (P Q R : Waiting → Type 0) → ((txn : Waiting) → P txn → Q txn → R txn) → (waiting : List Waiting) → Every P waiting → Every Q waiting → Every R waiting
+pub both_every : (P Q R : Waiting → Type 0) → ((txn : Waiting) → P txn → Q txn → R txn) → (waiting : List Waiting) → Every P waiting → Every Q waiting → Every R waiting
 both_every P Q R f [] p q = tt
 both_every P Q R f (txn ∷ waiting) p q = (f txn p.0 q.0, both_every P Q R f waiting p.1 q.1)
 
@@ -267,44 +261,3 @@ module _ {S : Type 0} (content : S → Content) (place : S → ℕ → Content) 
 -- what was used up to a transaction, and what its own calls used
 pub uses_up_to_here : {c d e : Content} {m n : ℕ} (k : ℕ) → Uses c d m n (suc k) (suc k) → Uses d e 1 1 0 0 → Uses c e m n 0 0
 uses_up_to_here k h one = record { counter = omega (arith, h.counter, one.counter); numbers = λ key. omega (arith, h.numbers key, one.numbers key) }
-
--- ---- the Run
-
-chosen_end : (o : Outcome) (s : State) → s ≡ settled_state o → is_chosen_state s ≡ true
-chosen_end outcome.Applied s e = ap is_chosen_state e
-chosen_end outcome.Aborted s e = ap is_chosen_state e
-
-unchosen : (c : Content) (id : TxnId) → record_at c id ≡ None → chosen (look c) id ≡ false
-unfolding look chosen
-unchosen c id none = ap (state_passes is_chosen_state) none
-
-pub ran_batch : {S : Type 0} (content : S → Content) (place : S → ℕ → Content) (calls : S → ℕ) (old now : S) (waiting : List Waiting) (run : Run) (lines : List ℕ)
-    → MayRun (content old) waiting → place old (calls old) ≡ content old → place now (calls now) ≡ content now
-    → run.mark ≡ calls old → run.base ≡ meaning (content old) → run.turns ≡ []
-    → WorksOnBatch content place calls old now [] run.order waiting → Uses (content old) (content now) (length waiting) (length waiting) 0 0 → IsDoneWith (content now) waiting lines
-    → HasRun (place now) run.mark (calls now) run.base run.order
-    → place now run.mark ≡ content old
-    → RanBatch (content old) (content now) waiting run lines
-ran_batch content place calls old now waiting run lines may was is mark base turns works uses done has from = record {
-  opens = may.calm.sound;
-  closes = done.calm.sound;
-  base = base;
-  legal = run_legal (place now) run.mark (calls now) run.base run.order has;
-  means = ap meaning (sym is) ∙ run_means (place now) run.mark (calls now) run.base run.order has;
-  stand = both_every (MayBegin (content old)) (HasOutcome (content now)) (StandsIn (content now) run.order) stands waiting may.may_begin done.ended;
-  only = works.decided refl;
-  others = works.others.records;
-  uses = uses;
-  turns = turns;
-  text = done.text;
-}
-  where
-    stands : (txn : Waiting) → MayBegin (content old) txn → HasOutcome (content now) txn → StandsIn (content now) run.order txn
-    stands txn m e = record {
-      ended = e;
-      entry = ⊎_elim (λ was_chosen. absurd (clash (subst (λ (x : Content). chosen (look x) txn.id ≡ true) from was_chosen) (unchosen (content old) txn.id m.fresh))) (λ recorded. recorded)
-          (trail_records (place now) run.mark has.made run.base run.order has.trail txn.id e.settled.rec (ap (λ (x : Content). record_at x txn.id) (ap (place now) (sym has.counted) ∙ is) ∙ e.settled.there) (chosen_end e.outcome e.settled.rec.state e.settled.ends));
-    }
-      where
-        clash : {b : Bool} → b ≡ true → b ≡ false → ⊥
-        clash p q = cc

@@ -6,7 +6,11 @@ pub mod Runs
 pub mod Batches
 pub mod OnlyReading
 pub mod Sessions
+pub mod Beginning
+pub mod LastLine
+pub mod Refused
 pub mod Readings
+pub mod Endings
 pub mod BatchRuns
 pub mod Spending
 pub mod Caused

@@ -14,7 +14,7 @@ use Rattle.txn_script.specs.Statements.{line_in}
 use Rattle.txn_script.specs.declared.fault.ScriptFault.{ScriptFault}
 use Rattle.txn_script.specs.declared.statement.Statement.{Statement}
 use Rattle.txn_script.specs.declared.statement.Statement.TheVariants as statement
-use Rattle.txn_cli.proofs.Readings.{left_more, unbuilt_line}
+use Rattle.txn_cli.proofs.Refused.{left_more, unbuilt_line}
 
 -- what lets a batch run isn't allowed where it may not run
 not_allowed : (p : Progress) (s : Statement) → lets_run s ≡ true → p.was_empty ≡ false → is_allowed p s ≡ false

@@ -1,5 +1,5 @@
 -- The Runs of a call while calls are made.
-use Rattle.std.proofs.Common.{◌≡◌, ℕ, ◌≤◌, List, [], ◌∷◌, ◌++◌, true, sym, ap, ◌∙◌, subst, arith}
+use Rattle.std.proofs.Common.{◌≡◌, ℕ, ◌≤◌, List, [], ◌∷◌, ◌++◌, true, sym, ap, ◌∙◌, subst, arith, ◌+◌, Bool, false, IsTrue, refl}
 use Rattle.txn_key.specs.Documents.{Docs}
 use Rattle.txn_record.specs.Orders.{after, legal}
 use Rattle.txn_record.specs.declared.entry.Entry.{Entry}
@@ -12,6 +12,7 @@ use Rattle.txn_runner.specs.Running.{HasRun}
 use Rattle.txn_cli.specs.Runs.{RunsGoOn, AreFaithful, end_of}
 use Rattle.txn_cli.specs.declared.done.Run.{Run}
 use Rattle.txn_runner.proofs.Running.{run_same, run_reads}
+use Rattle.txn_cli.specs.Sessions.{at}
 
 -- what the store means at the end of a run
 pub run_means : (place : ℕ → Content) (mark n : ℕ) (base : Docs) (order : List Entry) → HasRun place mark n base order → meaning (place n) ≡ after base order
@@ -50,3 +51,10 @@ runs_faithful place (run ∷ runs) last h = (
   h.1,
   runs_faithful place runs last h.2,
 )
+
+pub none_go_on : (place : ℕ → Content) (runs : List Run) (last : ℕ) → runs ≡ [] → RunsGoOn place runs last
+none_go_on place runs last none = subst (λ (rs : List Run). RunsGoOn place rs last) (sym none) tt
+
+pub held_or_none : (place : ℕ → Content) (runs : List Run) (last : ℕ) (was : Bool) → (IsTrue was → RunsGoOn place runs last) → (was ≡ false → runs ≡ []) → RunsGoOn place runs last
+held_or_none place runs last true held none = held refl
+held_or_none place runs last false held none = none_go_on place runs last (none refl)

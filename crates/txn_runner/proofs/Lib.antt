@@ -1,7 +1,11 @@
 pub mod Running
 pub mod Works
 pub mod Beside
-pub mod Stages
+pub mod OwnCells
+pub mod Drawing
+pub mod Preparing
+pub mod Looking
+pub mod Deciding
 pub mod Submitting
 pub mod CallsMade
 pub mod Numbers

@@ -1,6 +1,6 @@
 use Rattle.std.proofs.Common.{Err, ap}
 use Rattle.txn_runner.proofs.CallsMade.{rose_before}
-use Rattle.txn_cli.proofs.Readings.{put_since, refuses_out}
+use Rattle.txn_cli.proofs.LastLine.{put_since, refuses_out}
 use Rattle.txn_cli.proofs.Runs.{runs_faithful}
 use Rattle.txn_cli.proofs.Completing.{caused}
 use Rattle.txn_cli.proofs.command.command.Goals as goal

@@ -3,7 +3,10 @@ use Rattle.std.proofs.Common.{◌++◌, refl, sym, ◌∙◌, arith}
 use Rattle.std.proofs.lemmas.Result.{err_from_is_err_and}
 use Rattle.txn_runner.proofs.CallsMade.{calls_then}
 use Rattle.txn_cli.proofs.Playing.{next_is, rest_out}
-use Rattle.txn_cli.proofs.Readings.{begins_held, begins_come, begins_stopped, comes_further, on_any, ends_played, ends_stopped, held_or_none, none_go_on, stops_line, unread}
+use Rattle.txn_cli.proofs.Beginning.{begins_held, begins_come, begins_stopped}
+use Rattle.txn_cli.proofs.Endings.{on_any, ends_played, ends_stopped, unread}
+use Rattle.txn_cli.proofs.Readings.{comes_further, stops_line}
+use Rattle.txn_cli.proofs.Runs.{held_or_none, none_go_on}
 use Rattle.txn_cli.proofs.Spending.{suffices_at}
 use Rattle.txn_cli.proofs.command.play.Goals as goal
 

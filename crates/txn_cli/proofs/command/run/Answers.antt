@@ -1,5 +1,6 @@
 use Rattle.std.proofs.Common.{refl, arith}
-use Rattle.txn_cli.proofs.Readings.{begins_refused, none_go_on}
+use Rattle.txn_cli.proofs.Beginning.{begins_refused}
+use Rattle.txn_cli.proofs.Runs.{none_go_on}
 use Rattle.txn_cli.proofs.command.run.Goals as goal
 
 pub returns-then-not-is_run-clause-stopped : goal.returns-then-not-is_run-clause-stopped

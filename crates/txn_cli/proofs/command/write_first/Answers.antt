@@ -1,4 +1,4 @@
-use Rattle.txn_cli.proofs.Readings.{put_or_failed}
+use Rattle.txn_cli.proofs.LastLine.{put_or_failed}
 use Rattle.txn_cli.proofs.command.write_first.Goals as goal
 
 pub returns-clause-put : goal.returns-clause-put

@@ -1,4 +1,4 @@
-use Rattle.txn_runner.proofs.Stages.{found_doc, never_missing}
+use Rattle.txn_runner.proofs.Looking.{found_doc, never_missing}
 use Rattle.txn_runner.proofs.calls.read_document.Goals as goal
 
 pub returns-clause-found : goal.returns-clause-found

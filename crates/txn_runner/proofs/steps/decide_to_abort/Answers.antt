@@ -4,7 +4,7 @@ use Rattle.txn_record.specs.declared.state.State.TheVariants as state
 use Rattle.store_trait.specs.declared.edit.Edit.TheVariants as edit
 use Rattle.txn_runner.proofs.Beside.{record_others}
 use Rattle.txn_runner.proofs.Works.{works_idly, works_given_up, comes_edited, comes_to_nothing}
-use Rattle.txn_runner.proofs.Stages.{apply_hits, give_up_aborts, give_up_worth}
+use Rattle.txn_runner.proofs.Deciding.{apply_hits, give_up_aborts, give_up_worth}
 use Rattle.txn_runner.proofs.Numbers.{uses_within, uses_same, uses_made, uses_record}
 use Rattle.txn_runner.proofs.Unended.{same_record}
 use Rattle.txn_runner.proofs.steps.decide_to_abort.Goals as goal

@@ -6,7 +6,7 @@ use Rattle.store_trait.specs.declared.name.Name.TheVariants as name
 use Rattle.store_trait.specs.Contents.{Content}
 use Rattle.txn_runner.specs.Settling.{MayStop}
 use Rattle.txn_runner.proofs.Beside.{nonce_others}
-use Rattle.txn_runner.proofs.Stages.{draw_quietly, draw_ok, draw_err}
+use Rattle.txn_runner.proofs.Drawing.{draw_quietly, draw_ok, draw_err}
 use Rattle.txn_runner.proofs.Works.{works_edited, works_idly, comes_err, comes_edited}
 use Rattle.txn_runner.proofs.Numbers.{uses_within, uses_same, uses_made, uses_draw}
 use Rattle.std.proofs.Common.{arith}

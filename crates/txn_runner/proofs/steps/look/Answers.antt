@@ -2,7 +2,7 @@ use Rattle.std.proofs.lemmas.Result.{err_from_is_err_and}
 use Rattle.txn_runner.proofs.Works.{works_idly, comes_err, comes_edited, comes_to_nothing}
 use Rattle.std.proofs.Common.{rules, SFits, w64}
 use Rattle.std.proofs.lemmas.Int.{to_z-of_z}
-use Rattle.txn_runner.proofs.Stages.{look_there, look_worth, look_past, look_low, look_high}
+use Rattle.txn_runner.proofs.Looking.{look_there, look_worth, look_past, look_low, look_high}
 use Rattle.txn_runner.proofs.Numbers.{uses_within, uses_same}
 use Rattle.std.proofs.Common.{arith}
 use Rattle.txn_runner.proofs.steps.look.Goals as goal

@@ -2,7 +2,7 @@ use Rattle.std.proofs.lemmas.Result.{err_from_is_err_and}
 use Rattle.store_trait.specs.Readiness.{token}
 use Rattle.txn_runner.proofs.Beside.{add_others}
 use Rattle.txn_runner.proofs.Works.{works_edited, works_idly, comes_edited, comes_to_nothing}
-use Rattle.txn_runner.proofs.Stages.{queue_hits, queue_quietly, queue_worth}
+use Rattle.txn_runner.proofs.Preparing.{queue_hits, queue_quietly, queue_worth}
 use Rattle.txn_runner.proofs.Numbers.{uses_within, uses_same, uses_made, uses_add}
 use Rattle.std.proofs.Common.{arith}
 use Rattle.txn_runner.proofs.Unended.{same_record}

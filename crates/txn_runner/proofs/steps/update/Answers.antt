@@ -3,7 +3,7 @@ use Rattle.store_trait.specs.Readiness.{token}
 use Rattle.txn_runner.proofs.Beside.{update_others}
 use Rattle.txn_runner.proofs.Works.{works_edited, works_idly, comes_edited}
 use Rattle.std.proofs.lemmas.Int.{to_z-of_z}
-use Rattle.txn_runner.proofs.Stages.{update_quietly, update_worth}
+use Rattle.txn_runner.proofs.Deciding.{update_quietly, update_worth}
 use Rattle.txn_runner.proofs.Numbers.{uses_within, uses_same, uses_made, uses_update}
 use Rattle.std.proofs.Common.{arith}
 use Rattle.txn_runner.proofs.steps.update.Goals as goal
