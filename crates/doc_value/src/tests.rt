@@ -265,6 +265,11 @@ fn copied_again(alloc: Global, text: &[u8]) -> Result<Vec<u8>, OutOfMemory> {
     if !copy.equals(&value) {
         return Ok(Vec::new(alloc));
     }
+    if let Value::Object(fields) = &value {
+        for field in fields.as_slice() {
+            let _copy = field.copy(alloc)?;
+        }
+    }
     print_value(alloc, &copy)
 }
 

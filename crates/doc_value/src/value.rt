@@ -30,6 +30,17 @@ pub type Field = Named<Value>;
 /// The fields of an object, in byte order of their distinct names wherever they were read.
 pub type Fields = Items<Field>;
 
+impl Named<Value> {
+    /// An equal field.
+    pub fn copy(&self, alloc: Global) -> Result<Field, OutOfMemory>
+        ensures { IfOk result (λ copy. copy ≡ self.now) }
+    {
+        let name = self.name.copy(alloc)?;
+        let value = self.value.copy(alloc)?;
+        Ok(Named { name, value })
+    }
+}
+
 impl Value {
     /// An equal value.
     #[cycle(copy)]

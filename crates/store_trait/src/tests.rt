@@ -90,7 +90,7 @@ fn owner_at(alloc: Global, revno: i64, stashed: i64) -> Result<Side, OutOfMemory
         name: Name::Nonce,
         cell: Cell::Doc(doc),
     };
-    let _copy = named.copy(alloc)?;
+    let _copies = (named.copy(alloc)?, Cell::Stash(stash).copy(alloc)?);
     Ok(side)
 }
 

@@ -6,6 +6,9 @@ use std::test::Fail;
 use store_memory::MemoryStore;
 use store_trait::Store;
 use txn_io::{MemorySink, MemorySource};
+use txn_key::TxnId;
+use txn_runner::Waiting;
+use txn_script::{Statement, read_line};
 
 const ROOM: u64 = 4096;
 
@@ -145,6 +148,9 @@ fn play_over<S: Store + Drop>(
     let mut input = MemorySource::new(bytes, vec![in alloc; fails.input]?);
     let mut output = MemorySink::new(alloc, ROOM, vec![in alloc; fails.output]?)?;
     let done = command(alloc, list.as_slice(), &mut input, &mut output, store);
+    for run in &done.runs {
+        let _copy = run.copy(alloc)?;
+    }
     let written = Vec::from_slice(alloc, output.written())?;
     Ok(Played {
         status: done.status,
@@ -164,6 +170,19 @@ fn worked_scripts(rt: HostRuntime) -> Result<(), Fail> {
             "{words} {script}"
         );
     }
+    Ok(())
+}
+
+#[test]
+fn copied_transactions(rt: HostRuntime) -> Result<(), Fail> {
+    let alloc = rt.alloc();
+    let line = br#"{"txn":"000000000000000000000001","ops":[{"c":"k","d":"a","a":"d+"}]}"#;
+    let Ok(Some(Statement::Submit { id, ops, .. })) = read_line(alloc, line) else {
+        return Err("no transaction".into());
+    };
+    let copy = Waiting { id, ops }.copy(alloc)?;
+    assert_eq!(rt; copy.id, TxnId([0, 0, 0, 0, 0, 0, 0, 0, 0, 0, 0, 1]));
+    assert_eq!(rt; copy.ops.as_slice().len(), 1);
     Ok(())
 }
 

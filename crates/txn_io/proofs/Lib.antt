@@ -3,4 +3,3 @@ pub mod Invariants
 pub mod Limits
 pub mod Newlines
 pub mod Pieces
-pub mod Script

@@ -3,4 +3,3 @@ pub mod Gathering
 pub mod Lines
 pub mod Memory
 pub mod Pour
-pub mod Script

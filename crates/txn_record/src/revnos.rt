@@ -35,6 +35,17 @@ pub struct Chained {
     pub last: Items<i64>,
 }
 
+impl Chained {
+    /// An equal chain.
+    pub fn copy(&self, alloc: Global) -> Result<Chained, OutOfMemory>
+        ensures { IfOk result (λ copy. copy ≡ self.now) }
+    {
+        let found = Items::from_slice(alloc, self.found.as_slice())?;
+        let last = Items::from_slice(alloc, self.last.as_slice())?;
+        Ok(Chained { found, last })
+    }
+}
+
 /// Follows the revision numbers along the operations, from the number that each distinct key begins at, in
 /// key order. It compares keys O(n log n) times for n operations.
 pub fn chain(alloc: Global, ops: &Ops, first: &[i64]) -> Result<Chained, OutOfMemory>

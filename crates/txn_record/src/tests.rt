@@ -414,7 +414,7 @@ fn chained(alloc: Global, json: &str, first: &[i64]) -> Result<Chained, Fail> {
     if first.len() != ops.keys(alloc)?.len() || !all_have_room(first) {
         return Err("no first numbers".into());
     }
-    Ok(chain(alloc, &ops, first)?)
+    Ok(chain(alloc, &ops, first)?.copy(alloc)?)
 }
 
 #[test]

@@ -1,3 +1,7 @@
+ghost use Rattle.std.specs.Prelude.{◌≡◌, IfOk};
+
+use doc_value::OutOfMemory;
+use std::alloc::Global;
 use txn_key::TxnId;
 use txn_record::Ops;
 
@@ -6,4 +10,14 @@ use txn_record::Ops;
 pub struct Waiting {
     pub id: TxnId,
     pub ops: Ops,
+}
+
+impl Waiting {
+    /// An equal transaction.
+    pub fn copy(&self, alloc: Global) -> Result<Waiting, OutOfMemory>
+        ensures { IfOk result (λ copy. copy ≡ self.now) }
+    {
+        let ops = self.ops.copy(alloc)?;
+        Ok(Waiting { id: self.id, ops })
+    }
 }

@@ -33,6 +33,28 @@ pub enum Statement {
     Show,
 }
 
+impl Statement {
+    /// An equal statement.
+    pub fn copy(&self, alloc: Global) -> Result<Statement, OutOfMemory>
+        ensures { IfOk result (λ copy. copy ≡ self.now) }
+    {
+        match self {
+            Statement::Doc { key, body } => {
+                let key = key.copy(alloc)?;
+                let body = body.copy(alloc)?;
+                Ok(Statement::Doc { key, body })
+            }
+            Statement::Submit { id, ops, info } => {
+                let ops = ops.copy(alloc)?;
+                let info = copy_info(alloc, info.as_ref())?;
+                Ok(Statement::Submit { id: *id, ops, info })
+            }
+            Statement::Go => Ok(Statement::Go),
+            Statement::Show => Ok(Statement::Show),
+        }
+    }
+}
+
 /// The statement of a line, or None where the line is blank or a comment.
 pub fn read_line(alloc: Global, bytes: &[u8]) -> Result<Option<Statement>, ScriptFault>
     ensures exact { result ≢ Err ScriptFault.OutOfMemory → result ≡ line_in bytes.now }

@@ -302,11 +302,13 @@ const OPERATION: &str = r#"{"c":"k","d":"a","a":"d-"},"#;
 fn reading(alloc: Global, line: &[u8]) -> Result<String, OutOfMemory> {
     match read_line(alloc, line) {
         Ok(None) => String::from_str(alloc, "nothing"),
-        Ok(Some(Statement::Doc { .. })) => String::from_str(alloc, "doc"),
-        Ok(Some(Statement::Submit { info: None, .. })) => String::from_str(alloc, "submit"),
-        Ok(Some(Statement::Submit { .. })) => String::from_str(alloc, "submit with info"),
-        Ok(Some(Statement::Go)) => String::from_str(alloc, "go"),
-        Ok(Some(Statement::Show)) => String::from_str(alloc, "show"),
+        Ok(Some(statement)) => match statement.copy(alloc)? {
+            Statement::Doc { .. } => String::from_str(alloc, "doc"),
+            Statement::Submit { info: None, .. } => String::from_str(alloc, "submit"),
+            Statement::Submit { .. } => String::from_str(alloc, "submit with info"),
+            Statement::Go => String::from_str(alloc, "go"),
+            Statement::Show => String::from_str(alloc, "show"),
+        },
         Err(fault) => String::from_str(alloc, fault.text(alloc)?.as_str()),
     }
 }
