@@ -1,17 +1,17 @@
 -- The Run of a batch: from the listing of its base to the end of its calls.
-use Rattle.std.proofs.Common.{◌≡◌, ℕ, Bool, List, [], ◌∷◌, ◌++◌, Result, Ok, Err, IfOk, IfErr, IsTrue, true, inl, inr, refl, sym, ap, ◌∙◌, subst, arith, length, ◌+◌, false, None, ⊎_elim}
+use Rattle.std.proofs.Common.{◌≡◌, ℕ, Bool, List, [], ◌∷◌, ◌++◌, Result, Ok, Err, IfOk, IfErr, IsTrue, true, inl, inr, refl, sym, ap, ◌∙◌, subst, arith, length, false, None, ⊎_elim}
 use Rattle.txn_key.specs.Documents.{Docs}
 use Rattle.store_trait.specs.Calls.{CallsGoOn}
 use Rattle.store_trait.specs.Contents.{Content}
 use Rattle.store_trait.specs.Meaning.{meaning}
 use Rattle.store_trait.specs.Soundness.{IsSound}
-use Rattle.txn_cli.specs.Batches.{MayRun, WorksOnBatch, IsDoneWith, MayBegin, HasOutcome, StandsIn}
+use Rattle.txn_cli.specs.Batches.{MayRun, WorksOnBatch, IsDoneWith, MayBegin, HasOutcome, StandsIn, LeavesRecords}
 use Rattle.txn_cli.specs.Leaving.{HasBegun, HasLeft, LeavesUnfinished, Stays}
 use Rattle.txn_cli.specs.Play.{RanBatch, HasRunBatch}
 use Rattle.txn_cli.specs.Refusals.{IsOfRun}
 use Rattle.txn_cli.specs.declared.fault.Fault.{Fault}
 use Rattle.txn_cli.specs.declared.fault.Fault.TheVariants as fault
-use Rattle.store_trait.specs.View.{record_at, look, chosen, settled, state_passes}
+use Rattle.store_trait.specs.View.{record_at, look, chosen, state_passes}
 use Rattle.txn_runner.specs.Numbers.{Uses}
 use Rattle.txn_runner.specs.Running.{HasRun, OnlyReads}
 use Rattle.txn_cli.specs.Runs.{RunsGoOn}
@@ -132,13 +132,18 @@ module _ {S : Type 0} (tells : Bool) (content : S → Content) (place : S → �
     kept = kept;
   }
 
-  pub batch_left : {T : Type 0} (result : Result T Fault) (before after : List Run) → after ≡ before ++ run ∷ [] → IfErr result IsOfRun → IfErr result (LeavesUnfinished (content now) waiting) → IfErr result (HasLeft true (content old) waiting before (content now) (place now) after)
-  batch_left (Ok x) before after kept kind un = tt
-  batch_left (Err f) before after kept kind un = begun_left (content old) waiting before (content now) (place now) after f kind (record {
+  pub batch_left : {T : Type 0} (result : Result T Fault) (before after : List Run) → run.turns ≡ [] → after ≡ before ++ run ∷ [] → LeavesRecords (content now) [] run.order waiting → Uses (content mid) (content now) (length waiting) (length waiting) 0 0
+      → IfErr result IsOfRun → IfErr result (LeavesUnfinished (content now) waiting) → IfErr result (HasLeft true (content old) waiting before (content now) (place now) after)
+  batch_left (Ok x) before after turns kept records uses kind un = tt
+  batch_left (Err f) before after turns kept records uses kind un = begun_left (content old) waiting before (content now) (place now) after f kind (record {
     run = run;
     kept = kept;
     opens = still_there ∙ reads.same;
     base = base ∙ ap meaning reads.same;
     only = works.decided refl;
     others = λ id none. works.others.records id none ∙ ap (λ (c : Content). record_at c id) reads.same;
+    own = records.own;
+    whole = records.whole;
+    uses = subst (λ (c : Content). Uses c (content now) (length waiting) (length waiting) 0 0) reads.same uses;
+    turns = turns;
   }) un

@@ -25,9 +25,10 @@ use Rattle.store_laws.proofs.Misses.{quiet_itself}
 use Rattle.txn_runner.proofs.Beside.{docs_stay}
 use Rattle.txn_runner.proofs.Numbers.{uses_none, uses_then, uses_within}
 use Rattle.txn_runner.specs.Numbers.{Uses}
-use Rattle.txn_cli.specs.Batches.{waits, Every, MayBegin, MayRun, record_line, batch_text, KeepsAllBut, WorksOnBatch, IsBegun, IsDoneWith, IsSubmitting, IsSettling}
+use Rattle.txn_cli.specs.Batches.{waits, Every, HasOwnOperations, KeepsPresent, MayBegin, MayRun, record_line, batch_text, KeepsAllBut, WorksOnBatch, IsBegun, IsDoneWith, IsSubmitting, IsSettling}
 use Rattle.txn_runner.specs.Calm.{IsCalm}
 use Rattle.txn_runner.specs.Settling.{settled_state, IsSettled, IsSubmitted, HasDocuments, IsWorth, WorksOn, KeepsOthers, preparing_record}
+use Rattle.txn_cli.proofs.OwnOperations.{own_none, own_submitted}
 use Rattle.txn_cli.specs.Texts.{state_line}
 use Rattle.txn_runner.specs.declared.stage.Stage.TheVariants as stage
 use Rattle.txn_runner.specs.declared.waiting.Waiting.{Waiting}
@@ -133,7 +134,16 @@ module _ {S : Type 0} (content : S → Content) (place : S → ℕ → Content) 
     distinct = may.distinct;
     within = all_wait waiting;
     done = λ d keeps all. all;
+    own = λ d keeps all. all;
   }
+
+  -- the insertion of a record that isn't there leaves those that are
+  keeps_present : (now next : S) (txn : Waiting) → record_at (content now) txn.id ≡ None → ((order : List Entry) → WorksOn content place calls now next order order txn.id) → KeepsPresent (content now) (content next)
+  keeps_present now next txn fresh works id rec there =
+      (works []).others.records id (λ same. absurd (both_ways (record_at (content now) txn.id) (subst (λ (x : TxnId). record_at (content now) x ≡ Some rec) same there) fresh)) ∙ there
+    where
+      both_ways : (o : Option Record) → o ≡ Some rec → o ≡ None → ⊥
+      both_ways o p q = cc
 
   pub submitting_next : (old now next : S) (waiting : List Waiting) (txn : Waiting) (left : List Waiting) → IsSubmitting content place calls old now waiting (txn ∷ left)
       → ((order : List Entry) → WorksOn content place calls now next order order txn.id) → Uses (content now) (content next) 0 0 0 0 → IsCalm (content next) → IsSubmitted (content next) txn → IsSubmitting content place calls old next waiting left
@@ -149,13 +159,20 @@ module _ {S : Type 0} (content : S → Content) (place : S → ℕ → Content) 
         distinct = distinct.1;
         within = h.within.1;
         done = λ d keeps all. h.done d (λ id rec there. keeps id rec (stays id rec there)) (keeps txn.id (preparing_record txn) stands, all);
+        own = λ d keeps all. h.own d (λ id rec there. keeps id rec (stays id rec there)) (own_submitted d txn (keeps txn.id (preparing_record txn) stands), all);
       }
     where
-      both_ways : (o : Option Record) (rec : Record) → o ≡ Some rec → o ≡ None → ⊥
-      both_ways o rec p q = cc
+      stays : KeepsPresent (content now) (content next)
+      stays = keeps_present now next txn h.may_begin.0.fresh works
 
-      stays : (id : TxnId) (rec : Record) → record_at (content now) id ≡ Some rec → record_at (content next) id ≡ Some rec
-      stays id rec there = (works []).others.records id (λ same. absurd (both_ways (record_at (content now) txn.id) rec (subst (λ (x : TxnId). record_at (content now) x ≡ Some rec) same there) h.may_begin.0.fresh)) ∙ there
+  -- a transaction whose submission was refused left no record
+  pub submitting_refused : (old now next : S) (waiting : List Waiting) (txn : Waiting) (left : List Waiting) → IsSubmitting content place calls old now waiting (txn ∷ left)
+      → ((order : List Entry) → WorksOn content place calls now next order order txn.id) → record_at (content next) txn.id ≡ record_at (content now) txn.id → Every (HasOwnOperations (content next)) waiting
+  submitting_refused old now next waiting txn left h works still =
+      let apart = apart_from txn.id left (not_false (waits left txn.id) (and_parts _ _ h.distinct).0) in
+      h.own (content next) (keeps_present now next txn h.may_begin.0.fresh works)
+      (own_none (content next) txn (still ∙ h.may_begin.0.fresh),
+          both_every (λ other. other.id ≢ txn.id) (MayBegin (content now)) (HasOwnOperations (content next)) (λ other apart may. own_none (content next) other ((works []).others.records other.id apart ∙ may.fresh)) left apart h.may_begin.1)
 
   pub submitting_ends : (old now : S) (waiting : List Waiting) → MayRun (content old) waiting → IsSubmitting content place calls old now waiting [] → IsBegun (content now) waiting
   submitting_ends old now waiting may h = record {

@@ -1,5 +1,5 @@
 -- The last line of a refusal was written, or another refusal came.
-use Rattle.std.proofs.Common.{◌≡◌, ◌≢◌, ℕ, ◌+◌, Bool, true, List, ◌++◌, Result, Ok, Err, OnOk, OnErr, IsTrue, ◌⊎◌, ⊎_elim, inl, inr, refl, sym, ap, ◌∙◌, subst}
+use Rattle.std.proofs.Common.{◌≡◌, ◌≢◌, ℕ, Bool, true, List, ◌++◌, Result, Ok, Err, OnOk, OnErr, IsTrue, ◌⊎◌, ⊎_elim, inl, inr, refl, sym, ap, ◌∙◌, subst}
 use Rattle.store_trait.specs.Contents.{Content}
 use Rattle.txn_cli.specs.Leaving.{Leaves, next_may_run}
 use Rattle.txn_io.specs.Pour.{IsPartPut}

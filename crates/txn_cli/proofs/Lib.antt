@@ -3,6 +3,7 @@ pub mod Showing
 pub mod Opening
 pub mod Playing
 pub mod Runs
+pub mod OwnOperations
 pub mod Batches
 pub mod OnlyReading
 pub mod Sessions

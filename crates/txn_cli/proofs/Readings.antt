@@ -1,5 +1,5 @@
 -- How a call comes from line to line, with what it writes.
-use Rattle.std.proofs.Common.{◌≡◌, ◌≤◌, ℕ, ◌+◌, arith, Bool, true, List, [], ◌++◌, Some, None, Ok, IsTrue, ◌⊎◌, ⊎_elim, refl, sym, ap, ◌∙◌, subst}
+use Rattle.std.proofs.Common.{◌≡◌, ◌≤◌, ℕ, ◌+◌, arith, Bool, true, List, [], ◌++◌, Some, None, Ok, IsTrue, ⊎_elim, refl, sym, ap, ◌∙◌, subst}
 use Rattle.std.proofs.lemmas.List.{append_assoc}
 use Rattle.store_trait.specs.Contents.{Content}
 use Rattle.txn_cli.specs.Doing.{HasDone, HasDoneLine, HasRunFirst, HasStoppedLine, RunsBefore, RunsFirst, RunsWaiting, StopsAs}

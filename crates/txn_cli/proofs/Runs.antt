@@ -1,5 +1,5 @@
 -- The Runs of a call while calls are made.
-use Rattle.std.proofs.Common.{◌≡◌, ℕ, ◌≤◌, List, [], ◌∷◌, ◌++◌, true, sym, ap, ◌∙◌, subst, arith, ◌+◌, Bool, false, IsTrue, refl}
+use Rattle.std.proofs.Common.{◌≡◌, ℕ, ◌≤◌, List, [], ◌∷◌, ◌++◌, true, sym, ap, ◌∙◌, subst, arith, Bool, false, IsTrue, refl}
 use Rattle.txn_key.specs.Documents.{Docs}
 use Rattle.txn_record.specs.Orders.{after, legal}
 use Rattle.txn_record.specs.declared.entry.Entry.{Entry}
@@ -12,7 +12,6 @@ use Rattle.txn_runner.specs.Running.{HasRun}
 use Rattle.txn_cli.specs.Runs.{RunsGoOn, AreFaithful, end_of}
 use Rattle.txn_cli.specs.declared.done.Run.{Run}
 use Rattle.txn_runner.proofs.Running.{run_same, run_reads}
-use Rattle.txn_cli.specs.Sessions.{at}
 
 -- what the store means at the end of a run
 pub run_means : (place : ℕ → Content) (mark n : ℕ) (base : Docs) (order : List Entry) → HasRun place mark n base order → meaning (place n) ≡ after base order

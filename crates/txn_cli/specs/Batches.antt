@@ -1,5 +1,5 @@
 -- A batch: transactions that wait, are submitted, and are settled.
-use Rattle.std.specs.Prelude.{◌≡◌, true, false, Bool, not, ◌&&◌, ℕ, List, [], ◌∷◌, ◌++◌, length, Option, Some, None, IsTrue}
+use Rattle.std.specs.Prelude.{◌≡◌, ◌⊎◌, true, false, Bool, not, ◌&&◌, ℕ, List, [], ◌∷◌, ◌++◌, length, Option, Some, None, is_some, IsTrue}
 use Rattle.std.specs.List.{list_any, list_all, flat_map}
 use Rattle.txn_key.specs.declared.id.TxnId.{TxnId}
 use Rattle.txn_key.specs.declared.key.Key.{Key}
@@ -87,6 +87,20 @@ pub record WorksOnBatch {S : Type 0} (content : S → Content) (place : S → �
   pub others : KeepsAllBut (content old) (content new) waiting
   pub decided : list_all (λ entry. waits waiting entry.id) before ≡ true → list_all (λ entry. waits waiting entry.id) after ≡ true
 
+-- its record, where it is there, has its operations, and no info
+abbrev pub HasOwnOperations : Content → Waiting → Type 0
+HasOwnOperations c txn = (rec : Record) → record_at c txn.id ≡ Some rec → (rec.ops ≡ txn.ops) × (rec.info ≡ None)
+
+-- each transaction of the batch has its record
+abbrev pub are_recorded : Content → List Waiting → Bool
+are_recorded c waiting = list_all (λ txn. is_some (record_at c txn.id)) waiting
+
+-- What calls for a batch leave of its records, however they ended: no other operations than the batch's; and
+-- nothing is decided before each transaction has its record.
+pub record LeavesRecords (c : Content) (before after : List Entry) (waiting : List Waiting) : Type 0 where
+  pub own : Every (HasOwnOperations c) waiting
+  pub whole : (after ≡ before) ⊎ (are_recorded c waiting ≡ true)
+
 -- every transaction of the batch was submitted
 pub record IsBegun (c : Content) (waiting : List Waiting) : Type 0 where
   pub calm : IsCalm c
@@ -114,6 +128,7 @@ pub record IsSubmitting {S : Type 0} (content : S → Content) (place : S → �
   pub distinct : are_distinct left ≡ true
   pub within : Every (λ txn. waits waiting txn.id ≡ true) left
   pub done : (d : Content) → KeepsPresent (content now) d → Every (IsSubmitted d) left → Every (IsSubmitted d) waiting
+  pub own : (d : Content) → KeepsPresent (content now) d → Every (HasOwnOperations d) left → Every (HasOwnOperations d) waiting
 
 pub record IsSettling {S : Type 0} (content : S → Content) (place : S → ℕ → Content) (calls : S → ℕ) (old now : S) (before order : List Entry) (waiting left : List Waiting) (lines : List ℕ) : Type 0 where
   pub works : WorksOnBatch content place calls old now before order waiting

@@ -1,5 +1,5 @@
 -- What a refusal leaves behind the last line that was done.
-use Rattle.std.specs.Prelude.{◌≡◌, ◌+◌, ◌⊎◌, ℕ, Bool, true, false, List, [], ◌∷◌, ◌++◌, Option, Some, None, Result, Ok, Err}
+use Rattle.std.specs.Prelude.{◌≡◌, ◌+◌, ◌⊎◌, ℕ, Bool, true, false, List, [], ◌∷◌, ◌++◌, length, Option, Some, None, Result, Ok, Err}
 use Rattle.std.specs.List.{list_all}
 use Rattle.txn_key.specs.declared.id.TxnId.{TxnId}
 use Rattle.store_trait.specs.Contents.{Content}
@@ -11,11 +11,12 @@ use Rattle.txn_script.specs.Statements.{line_in}
 use Rattle.txn_script.specs.declared.fault.ScriptFault.{ScriptFault}
 use Rattle.txn_script.specs.declared.statement.Statement.{Statement}
 use Rattle.txn_script.specs.declared.statement.Statement.TheVariants as statement
-use Rattle.txn_cli.specs.Batches.{waits}
+use Rattle.txn_cli.specs.Batches.{Every, HasOwnOperations, are_recorded, waits}
 use Rattle.txn_cli.specs.Play.{Progress, Refuses, after_lines, next_of}
 use Rattle.txn_cli.specs.declared.done.Run.{Run}
 use Rattle.txn_cli.specs.declared.fault.Fault.{Fault}
 use Rattle.txn_cli.specs.declared.fault.Fault.TheVariants as fault
+use Rattle.txn_runner.specs.Numbers.{Uses}
 use Rattle.txn_runner.specs.Settling.{has_ended}
 use Rattle.txn_runner.specs.declared.waiting.Waiting.{Waiting}
 
@@ -25,7 +26,8 @@ pub record Stays (old : Content) (before : List Run) (new : Content) (after : Li
   pub runs : after ≡ before
 
 -- A batch is on its way: there is one Run more, which begins with what the store then held, and has decided
--- none but the transactions of the batch; no other record was touched.
+-- none but the transactions of the batch, and none before each of them has its record. Their records have
+-- their operations; no other record was touched, and no more was used than the batch may use.
 pub record HasBegun (old : Content) (waiting : List Waiting) (before : List Run) (new : Content) (place : ℕ → Content) (after : List Run) : Type 0 where
   pub run : Run
   pub kept : after ≡ before ++ run ∷ []
@@ -33,6 +35,10 @@ pub record HasBegun (old : Content) (waiting : List Waiting) (before : List Run)
   pub base : run.base ≡ meaning old
   pub only : list_all (λ entry. waits waiting entry.id) run.order ≡ true
   pub others : (id : TxnId) → waits waiting id ≡ false → record_at new id ≡ record_at old id
+  pub own : Every (HasOwnOperations new) waiting
+  pub whole : (run.order ≡ []) ⊎ (are_recorded new waiting ≡ true)
+  pub uses : Uses old new (length waiting) (length waiting) 0 0
+  pub turns : run.turns ≡ []
 
 -- some transaction of the batch hasn't come to its end
 abbrev pub IsUnfinished : Content → List Waiting → Type 0

@@ -3,7 +3,7 @@
 ghost use Rattle.std.specs.Prelude.{◌≡◌, true, List, length, IsTrue, IfOk, IfErr, OnOk, IsErrOf};
 ghost use Rattle.store_trait.specs.Calls.{CallsGoOn, Rose};
 ghost use Rattle.txn_runner.specs.Calm.{IsCalm};
-ghost use Rattle.txn_cli.specs.Batches.{MayRun, IsBegun, IsDoneWith, WorksOnBatch, are_built};
+ghost use Rattle.txn_cli.specs.Batches.{MayRun, IsBegun, IsDoneWith, Every, HasOwnOperations, LeavesRecords, WorksOnBatch, are_built};
 ghost use Rattle.txn_runner.specs.Numbers.{Suffices, Uses};
 ghost use Rattle.txn_cli.specs.Play.{HasRunBatch};
 ghost use Rattle.txn_cli.specs.Refusals.{IsOfRun, IsUnspent, HasCause, HasReason};
@@ -76,6 +76,7 @@ fn run_all<S: Store>(
         WorksOnBatch S.content S.place S.calls store.old store.new order.old.items order.new.items batch.now }
     ensures done { IsTrue S.tells → IfOk result (λ lines. IsDoneWith (S.content store.new) batch.now lines.items) }
     ensures uses { IsTrue S.tells → Uses (S.content store.old) (S.content store.new) (length batch.now) (length batch.now) 0 0 }
+    ensures records { IsTrue S.tells → LeavesRecords (S.content store.new) order.old.items order.new.items batch.now }
     ensures unfinished { IsTrue S.tells → IfErr result (LeavesUnfinished (S.content store.new) batch.now) }
     ensures reason { IsTrue S.tells → IfErr result (HasReason (S.content store.new)) }
     ensures cause { IfErr result (HasCause S.answered S.calls store.old store.new) }
@@ -96,6 +97,7 @@ fn submit_all<S: Store>(alloc: Global, store: &mut S, batch: &[Waiting]) -> Resu
         WorksOnBatch S.content S.place S.calls store.old store.new order order batch.now }
     ensures begun { IsTrue S.tells → OnOk result (IsBegun (S.content store.new) batch.now) }
     ensures uses { IsTrue S.tells → Uses (S.content store.old) (S.content store.new) 0 0 0 0 }
+    ensures own { IsTrue S.tells → Every (HasOwnOperations (S.content store.new)) batch.now }
     ensures unfinished { IsTrue S.tells → IfErr result (LeavesUnfinished (S.content store.new) batch.now) }
     ensures reason { IsTrue S.tells → IfErr result (HasReason (S.content store.new)) }
     ensures cause { IfErr result (HasCause S.answered S.calls store.old store.new) }

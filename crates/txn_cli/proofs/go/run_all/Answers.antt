@@ -1,5 +1,6 @@
 use Rattle.txn_cli.proofs.Caused.{causes_before}
 use Rattle.txn_cli.proofs.Batches.{batch_then}
+use Rattle.txn_cli.proofs.OwnOperations.{records_after, records_before}
 use Rattle.std.proofs.Common.{arith}
 use Rattle.txn_runner.proofs.Numbers.{uses_then, uses_within}
 use Rattle.txn_cli.proofs.go.run_all.Goals as goal
@@ -18,3 +19,9 @@ returns-in-Err-clause-uses g c = λ told. uses_within (c.submit_all.ensures.uses
 
 pub returns-in-Ok-clause-cause : goal.returns-in-Ok-clause-cause
 returns-in-Ok-clause-cause g c = causes_before _ _ _ _ _ _ c.submit_all.ensures.calls.counted c.settle_all.ensures.cause
+
+pub returns-in-Ok-clause-records : goal.returns-in-Ok-clause-records
+returns-in-Ok-clause-records g c = λ told. records_after _ _ _ _ _ (c.settle_all.ensures.works told).step (c.in-Ok.ensures.begun told).submitted
+
+pub returns-in-Err-clause-records : goal.returns-in-Err-clause-records
+returns-in-Err-clause-records g c = λ told. records_before _ _ _ (c.submit_all.ensures.own told)

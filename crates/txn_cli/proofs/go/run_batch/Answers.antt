@@ -31,7 +31,7 @@ returns-clause-left g c = λ told.
     let may = c.requires.may_run told in
     batch_left _ _ _ _ _ _ _ _ _ (record { base = c.in-Ok.base; order = c.run_all-lines.new.order.items; mark = c.calls-mark.result; turns = [] }) told (λ s. g.met.S.Store.present s told) may (c.in-Ok.ensures.reads told) c.in-Ok.ensures.calls c.run_all-lines.ensures.calls
     c.calls-mark.ensures (c.in-Ok.ensures.listed told may.calm.plain ∙ sym (meaning-rest _ may.calm.sound may.calm.rests) ∙ ap meaning (sym (c.in-Ok.ensures.reads told).same)) (rw c.new-order.ensures.items at (c.run_all-lines.ensures.works told))
-    c.run_all-lines.result _ _ (rw (c.in-Ok-push.ensures.items, c.in_ok-reserve.ensures.items, c.from_vec.ensures, c.new.ensures) refl) c.run_all-lines.ensures.kind (c.run_all-lines.ensures.unfinished told)
+    c.run_all-lines.result _ _ refl (rw (c.in-Ok-push.ensures.items, c.in_ok-reserve.ensures.items, c.from_vec.ensures, c.new.ensures) refl) (rw c.new-order.ensures.items at (c.run_all-lines.ensures.records told)) (c.run_all-lines.ensures.uses told) c.run_all-lines.ensures.kind (c.run_all-lines.ensures.unfinished told)
 
 pub returns-clause-enough : goal.returns-clause-enough
 returns-clause-enough g c = λ told suffices.

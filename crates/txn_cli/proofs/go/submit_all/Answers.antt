@@ -1,7 +1,7 @@
 use Rattle.std.proofs.Common.{subst, List, rules}
 use Rattle.txn_cli.specs.Batches.{IsSubmitting}
 use Rattle.txn_runner.specs.declared.waiting.Waiting.{Waiting}
-use Rattle.txn_cli.proofs.Batches.{at_item, none_left, submitting_begins, submitting_next, submitting_ends, batch_works}
+use Rattle.txn_cli.proofs.Batches.{at_item, none_left, submitting_begins, submitting_next, submitting_refused, submitting_ends, batch_works}
 use Rattle.txn_runner.proofs.CallsMade.{call_after}
 use Rattle.txn_runner.proofs.Numbers.{uses_then}
 use Rattle.txn_cli.proofs.go.submit_all.Goals as goal
@@ -45,3 +45,12 @@ returns-in-Err-clause-uses g c = λ told. uses_then (c.loop-txn.invariant.told t
 
 pub returns-clause-uses : goal.returns-clause-uses
 returns-clause-uses g c = λ told. (c.loop-txn.invariant.told told).uses
+
+pub returns-in-Err-clause-own : goal.returns-in-Err-clause-own
+returns-in-Err-clause-own g c = λ told.
+    let h = subst (λ (l : List Waiting). IsSubmitting g.S.Store.content g.S.Store.place g.S.Store.calls c.args.store.now c.loop-txn.store c.args.batch.now l) (at_item _ _ _ c.txn-item.is c.loop-txn-test.true) (c.loop-txn.invariant.told told) in
+    submitting_refused _ _ _ _ _ _ _ _ _ h (c.submit.ensures.works told) (c.in-Err.ensures.stays told)
+
+pub returns-clause-own : goal.returns-clause-own
+returns-clause-own g c = λ told.
+    (subst (λ (l : List Waiting). IsSubmitting g.S.Store.content g.S.Store.place g.S.Store.calls c.args.store.now c.loop-txn.store c.args.batch.now l) (none_left _ _ c.loop-txn-test.false) (c.loop-txn.invariant.told told)).own _ (λ id rec there. there) tt
