@@ -4,7 +4,6 @@ use Rattle.std.specs.FinMap.{get}
 use Rattle.std.specs.Option.{option_and_then}
 use Rattle.std.proofs.lemmas.Bool.Decides.{nat_tests}
 use Rattle.txn_key.specs.declared.id.TxnId.{TxnId}
-use Rattle.txn_record.specs.declared.record.Record.{Record}
 use Rattle.store_trait.specs.Cells.{as_counter}
 use Rattle.store_trait.specs.Contents.{Content}
 use Rattle.store_trait.specs.Edits.{hit, edited, hit_draw_nonce, nonce_limit, puts}

@@ -1,5 +1,5 @@
 -- The document is looked at: what a read of it answers, and what the decision rests on.
-use Rattle.std.proofs.Common.{◌≡◌, ◌<◌, ◌≤◌, ◌+◌, ◌-◌, ℕ, ℤ, Bool, true, false, List, [], ◌∷◌, Option, Some, None, is_some, Result, IfOk, IfErr, inl, inr, refl, sym, ap, ◌∙◌, subst, arith, nat_le, unsigned_abs, ◌⊎◌, ◌&&◌}
+use Rattle.std.proofs.Common.{◌≡◌, ◌<◌, ◌≤◌, ◌+◌, ℕ, ℤ, Bool, true, false, List, [], ◌∷◌, Option, Some, None, is_some, Result, IfOk, IfErr, inl, inr, refl, sym, ap, ◌∙◌, subst, arith, nat_le, unsigned_abs, ◌⊎◌, ◌&&◌}
 use Rattle.std.specs.FinMap.{get}
 use Rattle.std.specs.Option.{option_and_then, ok_or}
 use Rattle.std.proofs.lemmas.Bool.Decides.{nat_tests}

@@ -6,6 +6,7 @@ use Rattle.doc_value.specs.declared.value.Value.{Value}
 use Rattle.txn_key.specs.declared.id.Token.{Token}
 use Rattle.txn_key.specs.declared.id.TxnId.{TxnId}
 use Rattle.txn_key.specs.declared.key.Key.{Key}
+use Rattle.txn_record.specs.declared.entry.Outcome.TheVariants as outcome
 use Rattle.store_trait.specs.Contents.{Content}
 use Rattle.store_trait.specs.Edits.{edited, hit}
 use Rattle.store_trait.specs.View.{counter}
@@ -37,6 +38,13 @@ pub uses_then : {a b c : Content} {m n p q r s : ℕ} → Uses a b m n p q → U
 uses_then one two = record {
   counter = omega (arith, one.counter, two.counter);
   numbers = λ key. omega (arith, one.numbers key, two.numbers key);
+}
+
+-- what is left needn't be told
+pub uses_at_most : {c d : Content} {m n r s : ℕ} → Uses c d m n r s → Uses c d m n 0 0
+uses_at_most u = record {
+  counter = omega (arith, u.counter);
+  numbers = λ key. omega (arith, u.numbers key);
 }
 
 -- what may be used and isn't is left
@@ -111,4 +119,5 @@ uses_up_to c x (stage.Decide n r h) near u = absurd (grind (arith, near))
 uses_up_to c x (stage.Update n r) near u = uses_within u (omega arith) (omega arith)
 uses_up_to c x stage.Finish near u = uses_within u (omega arith) (omega arith)
 uses_up_to c x stage.Abort near u = uses_within u (omega arith) (omega arith)
-uses_up_to c x (stage.Settled o) near u = uses_within u (omega arith) (omega arith)
+uses_up_to c x (stage.Settled outcome.Applied) near u = uses_within u (omega arith) (omega arith)
+uses_up_to c x (stage.Settled outcome.Aborted) near u = uses_within u (omega arith) (omega arith)

@@ -1,5 +1,5 @@
 -- The cells of a transaction: its own record and its moves, and the document of its operation.
-use Rattle.std.proofs.Common.{◌≡◌, ◌-◌, ℕ, ℤ, true, List, [], ◌∷◌, Option, Some, None, is_some, refl, ap, ◌∙◌, subst}
+use Rattle.std.proofs.Common.{◌≡◌, ℕ, ℤ, true, List, [], ◌∷◌, Option, Some, None, is_some, refl, ap, ◌∙◌, subst}
 use Rattle.std.specs.FinMap.{get}
 use Rattle.std.specs.List.{list_all}
 use Rattle.std.specs.Option.{option_and_then}

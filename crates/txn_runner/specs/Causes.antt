@@ -13,7 +13,10 @@ use Rattle.store_trait.specs.declared.name.Name.{Name}
 use Rattle.store_trait.specs.declared.name.Name.TheVariants as name
 use Rattle.store_trait.specs.declared.store.StoreError.{StoreError}
 use Rattle.store_trait.specs.declared.store.StoreError.TheVariants as store_error
-use Rattle.txn_runner.specs.Settling.{last_revno}
+use Rattle.txn_record.specs.declared.entry.Outcome.{Outcome}
+use Rattle.txn_runner.specs.Settling.{last_revno, settled_state}
+use Rattle.txn_runner.specs.declared.stage.Stage.{Stage}
+use Rattle.txn_runner.specs.declared.stage.Stage.TheVariants as stage
 use Rattle.txn_runner.specs.declared.error.StepError.{StepError}
 use Rattle.txn_runner.specs.declared.error.StepError.TheVariants as step
 
@@ -83,6 +86,11 @@ abbrev pub ShowsRepeated : TxnId → Exchange → Type 0
 ShowsRepeated id (Edits at (edit.InsertRecord _) hit _) = (at ≡ name.Record id) × (hit ≡ false)
 ShowsRepeated _ _ = ⊥
 
+-- the record of that id came to that end
+abbrev pub ShowsEnd : TxnId → Outcome → Exchange → Type 0
+ShowsEnd id outcome (Edits at (edit.Move from to _ _) hit _) = (at ≡ name.Record id) × (to ≡ settled_state outcome) × (hit ≡ true)
+ShowsEnd id outcome _ = ⊥
+
 -- ---- why a step is refused, over a store that tells nothing too
 
 -- The last call on a store was made since then, and was answered in a way that shows this.
@@ -102,3 +110,10 @@ HasCause answered calls old new id (step.RevnoSpent key) = LastShows answered ca
 HasCause answered calls old new id (step.Clash who at) = (who ≡ id) × LastShows answered calls old new (ShowsClash id at)
 HasCause answered calls old new id (step.Lost _) = ⊥
 HasCause answered calls old new id error = IsOfStore error
+
+-- ---- how a transaction ended, over any store
+
+-- where it came to its end, the last call on the store was answered so
+abbrev pub EndIsShown : {S : Type 0} → (S → Exchange → S → Type 0) → (S → ℕ) → S → S → TxnId → Stage → Type 0
+EndIsShown answered calls old new id (stage.Settled outcome) = LastShows answered calls old new (ShowsEnd id outcome)
+EndIsShown answered calls old new id _ = Unit {0}

@@ -5,6 +5,7 @@ use Rattle.store_trait.specs.Contents.{Content}
 use Rattle.store_trait.specs.Edits.{nonce_limit}
 use Rattle.store_trait.specs.View.{doc_at, counter}
 use Rattle.store_trait.specs.declared.cell.DocCell.{DocCell}
+use Rattle.txn_record.specs.declared.entry.Outcome.TheVariants as outcome
 use Rattle.txn_runner.specs.Settling.{last_revno}
 use Rattle.txn_runner.specs.declared.stage.Stage.{Stage}
 use Rattle.txn_runner.specs.declared.stage.Stage.TheVariants as stage
@@ -27,7 +28,8 @@ pub record Suffices (c : Content) (transactions : ℕ) : Type 0 where
   pub nonces : counter c + transactions < nonce_limit
   pub numbers : (key : Key) → number_at c key + transactions ≤ last_revno
 
--- what a transaction may still use from a stage on
+-- What a transaction has left, from a stage on, of the one nonce and the one number of a document that it may
+-- use: an aborted one uses no number.
 abbrev pub nonces_left : Stage → ℕ
 nonces_left stage.Draw = 1
 nonces_left (stage.Queue _) = 0
@@ -47,5 +49,6 @@ numbers_left (stage.Look _) = 1
 numbers_left (stage.Decide _ _ _) = 1
 numbers_left (stage.Update _ _) = 1
 numbers_left stage.Finish = 0
-numbers_left stage.Abort = 0
-numbers_left (stage.Settled _) = 0
+numbers_left stage.Abort = 1
+numbers_left (stage.Settled outcome.Applied) = 0
+numbers_left (stage.Settled outcome.Aborted) = 1

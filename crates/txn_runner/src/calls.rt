@@ -56,6 +56,7 @@ pub fn must_hit<S: Store>(
     ensures left { IsTrue S.tells → is_some (hit change name (get (S.content store.old) name)) ≡ true →
         OnErr result (S.content store.new ≡ S.content store.old) }
     ensures never { IsTrue S.tells → is_some (hit change name (get (S.content store.old) name)) ≡ true → IfErr result IsOfStore }
+    ensures hit { OnOk result (AnsweredEdit S.answered S.calls store.old name change true store.new) }
     ensures cause { IfErr result (IsMissed S.answered S.calls store.old id name change store.new) }
     ensures call { OneCall S.tells S.content S.place S.calls S.faults store.old store.new result StepError.StoreFault }
 {

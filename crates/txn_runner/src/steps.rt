@@ -9,7 +9,7 @@ ghost use Rattle.txn_record.specs.declared.entry.Entry.{Entry as LogEntry};
 ghost use Rattle.txn_record.specs.Revnos.{has_effect};
 ghost use Rattle.store_trait.specs.View.{record_at};
 ghost use Rattle.txn_runner.specs.Calm.{IsCalm};
-ghost use Rattle.txn_runner.specs.Causes.{HasCause, IsMissed, IsOfStore, LastShows, ShowsRepeated, drawn_of};
+ghost use Rattle.txn_runner.specs.Causes.{AnsweredEdit, EndIsShown, HasCause, IsMissed, IsOfStore, LastShows, ShowsRepeated, drawn_of};
 ghost use Rattle.txn_runner.specs.Settling.{IsWorth, WorksOn, ComesToStage, IsSubmitted, preparing_record};
 ghost use Rattle.txn_runner.specs.Built.{is_built, is_built_change, is_update, updates};
 ghost use Rattle.txn_runner.specs.Numbers.{Uses};
@@ -43,6 +43,7 @@ pub fn submit<S: Store>(alloc: Global, store: &mut S, txn: &Waiting) -> Result<b
     ensures stays { IsTrue S.tells → OnErr result (record_at (S.content store.new) txn.now.id ≡ record_at (S.content store.old) txn.now.id) }
     ensures uses { IsTrue S.tells → Uses (S.content store.old) (S.content store.new) 0 0 0 0 }
     ensures kind { IfErr result IsOfStore }
+    ensures answered { IfOk result (λ hits. AnsweredEdit S.answered S.calls store.old (Name.Record txn.now.id) (Edit.InsertRecord (preparing_record txn.now)) hits store.new) }
     ensures repeated { IfOk result (λ hits. hits ≡ false →
         LastShows S.answered S.calls store.old store.new (ShowsRepeated txn.now.id)) }
     ensures call { OneCall S.tells S.content S.place S.calls S.faults store.old store.new result StepError.StoreFault }
@@ -77,6 +78,7 @@ pub fn draw<S: Store>(alloc: Global, store: &mut S, txn: &Waiting) -> Result<Sta
     ensures nearer { IfOk result (λ next. steps_left next ≡ 6) }
     ensures uses { IsTrue S.tells → UsesUpTo (S.content store.old) (S.content store.new) Stage.Draw result }
     ensures suits { IfOk result (λ next. suits txn.now.ops next ≡ true) }
+    ensures shown { IfOk result (λ next. EndIsShown S.answered S.calls store.old store.new txn.now.id next) }
     ensures cause { IfErr result (HasCause S.answered S.calls store.old store.new txn.now.id) }
     ensures call { OneCall S.tells S.content S.place S.calls S.faults store.old store.new result StepError.StoreFault }
 {
@@ -116,6 +118,7 @@ pub fn queue<S: Store>(
     ensures nearer { IfOk result (λ next. steps_left next ≡ 5) }
     ensures uses { IsTrue S.tells → UsesUpTo (S.content store.old) (S.content store.new) (Stage.Queue nonce) result }
     ensures suits { IfOk result (λ next. suits txn.now.ops next ≡ true) }
+    ensures shown { IfOk result (λ next. EndIsShown S.answered S.calls store.old store.new txn.now.id next) }
     ensures cause { IfErr result (HasCause S.answered S.calls store.old store.new txn.now.id) }
     ensures call { OneCall S.tells S.content S.place S.calls S.faults store.old store.new result StepError.StoreFault }
 {
@@ -141,6 +144,7 @@ pub fn prepare<S: Store>(
     ensures nearer { IfOk result (λ next. steps_left next ≡ 4) }
     ensures uses { IsTrue S.tells → UsesUpTo (S.content store.old) (S.content store.new) (Stage.Prepare nonce) result }
     ensures suits { IfOk result (λ next. suits txn.now.ops next ≡ true) }
+    ensures shown { IfOk result (λ next. EndIsShown S.answered S.calls store.old store.new txn.now.id next) }
     ensures cause { IfErr result (HasCause S.answered S.calls store.old store.new txn.now.id) }
     ensures call { OneCall S.tells S.content S.place S.calls S.faults store.old store.new result StepError.StoreFault }
 {
@@ -170,6 +174,7 @@ pub fn look<S: Store>(
     ensures nearer { IfOk result (λ next. steps_left next ≡ 3) }
     ensures uses { IsTrue S.tells → UsesUpTo (S.content store.old) (S.content store.new) (Stage.Look nonce) result }
     ensures suits { IfOk result (λ next. suits txn.now.ops next ≡ true) }
+    ensures shown { IfOk result (λ next. EndIsShown S.answered S.calls store.old store.new txn.now.id next) }
     ensures cause { IfErr result (HasCause S.answered S.calls store.old store.new txn.now.id) }
     ensures call { OneCall S.tells S.content S.place S.calls S.faults store.old store.new result StepError.StoreFault }
 {
@@ -207,6 +212,7 @@ pub fn decide<S: Store>(
     ensures nearer { IfOk result (λ next. steps_left next < 3) }
     ensures uses { IsTrue S.tells → UsesUpTo (S.content store.old) (S.content store.new) (Stage.Decide nonce revno holds) result }
     ensures suits { IfOk result (λ next. suits txn.now.ops next ≡ true) }
+    ensures shown { IfOk result (λ next. EndIsShown S.answered S.calls store.old store.new txn.now.id next) }
     ensures cause { IfErr result (HasCause S.answered S.calls store.old store.new txn.now.id) }
     ensures call { OneCall S.tells S.content S.place S.calls S.faults store.old store.new result StepError.StoreFault }
 {
@@ -235,6 +241,7 @@ fn decide_to_apply<S: Store>(
     ensures nearer { IfOk result (λ next. steps_left next < 3) }
     ensures uses { IsTrue S.tells → UsesUpTo (S.content store.old) (S.content store.new) (Stage.Decide nonce revno true) result }
     ensures suits { IfOk result (λ next. suits txn.now.ops next ≡ true) }
+    ensures shown { IfOk result (λ next. EndIsShown S.answered S.calls store.old store.new txn.now.id next) }
     ensures cause { IfErr result (HasCause S.answered S.calls store.old store.new txn.now.id) }
     ensures call { OneCall S.tells S.content S.place S.calls S.faults store.old store.new result StepError.StoreFault }
 {
@@ -252,6 +259,7 @@ fn decide_to_apply<S: Store>(
 /// What is left to do for a transaction that applies: its update, where its operation makes one.
 fn after_decision(op: &Op, nonce: u32, revno: i64) -> Stage
     requires built { is_built_change op.now.change ≡ true }
+    ensures goes_on { 0 < steps_left result }
     ensures nearer { steps_left result < 3 }
     ensures idle { has_effect op.now.change revno ≡ false → result ≡ Stage.Finish }
     ensures changes { has_effect op.now.change revno ≡ true → result ≡ Stage.Update nonce revno }
@@ -280,6 +288,7 @@ fn decide_to_abort<S: Store>(
     ensures nearer { IfOk result (λ next. steps_left next < 3) }
     ensures uses { IsTrue S.tells → UsesUpTo (S.content store.old) (S.content store.new) (Stage.Decide nonce revno false) result }
     ensures suits { IfOk result (λ next. suits txn.now.ops next ≡ true) }
+    ensures shown { IfOk result (λ next. EndIsShown S.answered S.calls store.old store.new txn.now.id next) }
     ensures cause { IfErr result (HasCause S.answered S.calls store.old store.new txn.now.id) }
     ensures call { OneCall S.tells S.content S.place S.calls S.faults store.old store.new result StepError.StoreFault }
 {
@@ -363,6 +372,7 @@ pub fn update<S: Store>(
     ensures nearer { IfOk result (λ next. steps_left next ≡ 1) }
     ensures uses { IsTrue S.tells → UsesUpTo (S.content store.old) (S.content store.new) (Stage.Update nonce revno) result }
     ensures suits { IfOk result (λ next. suits txn.now.ops next ≡ true) }
+    ensures shown { IfOk result (λ next. EndIsShown S.answered S.calls store.old store.new txn.now.id next) }
     ensures cause { IfErr result (HasCause S.answered S.calls store.old store.new txn.now.id) }
     ensures call { OneCall S.tells S.content S.place S.calls S.faults store.old store.new result StepError.StoreFault }
 {
@@ -389,6 +399,7 @@ pub fn finish<S: Store>(alloc: Global, store: &mut S, txn: &Waiting) -> Result<S
     ensures nearer { IfOk result (λ next. steps_left next ≡ 0) }
     ensures uses { IsTrue S.tells → UsesUpTo (S.content store.old) (S.content store.new) Stage.Finish result }
     ensures suits { IfOk result (λ next. suits txn.now.ops next ≡ true) }
+    ensures shown { IfOk result (λ next. EndIsShown S.answered S.calls store.old store.new txn.now.id next) }
     ensures cause { IfErr result (HasCause S.answered S.calls store.old store.new txn.now.id) }
     ensures call { OneCall S.tells S.content S.place S.calls S.faults store.old store.new result StepError.StoreFault }
 {
@@ -412,6 +423,7 @@ pub fn abort<S: Store>(alloc: Global, store: &mut S, txn: &Waiting) -> Result<St
     ensures nearer { IfOk result (λ next. steps_left next ≡ 0) }
     ensures uses { IsTrue S.tells → UsesUpTo (S.content store.old) (S.content store.new) Stage.Abort result }
     ensures suits { IfOk result (λ next. suits txn.now.ops next ≡ true) }
+    ensures shown { IfOk result (λ next. EndIsShown S.answered S.calls store.old store.new txn.now.id next) }
     ensures cause { IfErr result (HasCause S.answered S.calls store.old store.new txn.now.id) }
     ensures call { OneCall S.tells S.content S.place S.calls S.faults store.old store.new result StepError.StoreFault }
 {

@@ -1,7 +1,7 @@
 use Rattle.std.proofs.Common.{Err, ap, rules}
 use Rattle.std.proofs.lemmas.Result.{err_from_is_err_and}
 use Rattle.txn_runner.proofs.Works.{works_then, same_error}
-use Rattle.txn_runner.proofs.Answered.{caused_before}
+use Rattle.txn_runner.proofs.Answered.{caused_before, end_before}
 use Rattle.txn_runner.proofs.CallsMade.{call_after, rose_before}
 use Rattle.txn_runner.proofs.Numbers.{uses_then}
 use Rattle.txn_runner.proofs.Unended.{unended_still}
@@ -13,10 +13,12 @@ returns-in_err-stage g c =
     rw (p.1, p.2) (record {
       works = λ told. works_then _ _ _ _ _ _ _ _ _ _ (c.loop-stage.invariant.works told) (c.advance.ensures.works told);
       settled = λ told. tt;
+      shown = tt;
       unended = λ told. unended_still _ _ _ _ (search rules) (c.loop-stage.invariant.worth told) (c.in_err-stage.ensures.stays told);
       reason = λ told. (c.in_err-stage.ensures.comes told).cause;
       cause = caused_before _ _ _ _ _ _ _ c.loop-stage.invariant.made.counted c.in_err-stage.ensures.cause;
       uses = λ told. uses_then (c.loop-stage.invariant.uses told) (c.in_err-stage.ensures.uses told);
+      spares = λ told. tt;
       calls = call_after _ _ _ _ _ _ _ _ _ _ c.loop-stage.invariant.made c.advance.ensures.call;
       fault = λ same. rose_before c.loop-stage.invariant.made.later (c.in_err-stage.ensures.call.fault (ap Err (same_error _ _ same)));
     })
@@ -28,4 +30,5 @@ loop-stage-preserved g c = record {
   uses = λ told. uses_then (c.loop-stage.invariant.uses told) (c.in_ok-stage.ensures.uses told);
   made = call_after _ _ _ _ _ _ _ _ _ _ c.loop-stage.invariant.made c.advance.ensures.call;
   suits = c.in_ok-stage.ensures.suits;
+  shown = end_before _ _ _ _ _ _ _ c.loop-stage.invariant.made.counted c.in_ok-stage.ensures.shown;
 }

@@ -1,3 +1,4 @@
+use Rattle.txn_runner.proofs.Answered.{on_the_way}
 use Rattle.std.proofs.Common.{Some, None, true, [], ◌∷◌, refl, arith}
 use Rattle.std.proofs.lemmas.Int.{to_z-of_z}
 use Rattle.std.proofs.lemmas.Result.{err_from_is_err_and}
@@ -48,3 +49,6 @@ returns-in_err-record_decision-clause-uses g c = λ told.
 
 pub returns-in_err-record_decision-clause-stays : goal.returns-in_err-record_decision-clause-stays
 returns-in_err-record_decision-clause-stays g c = λ told. let p = err_from_is_err_and c.from_residual-in_err-record_decision.result c.from_residual-in_err-record_decision.ensures.1 in rw p.1 (same_record _ _ _ (c.in_err-record_decision.ensures.left told (apply_hits _ _ c.args.nonce c.args.revno true (c.requires.worth told) state.Applying (Some c.in_ok-revnos.revnos))))
+
+pub returns-clause-shown : goal.returns-clause-shown
+returns-clause-shown g c = on_the_way _ _ _ _ _ _ c.after_decision.ensures.goes_on

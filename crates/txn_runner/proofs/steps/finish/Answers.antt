@@ -1,3 +1,6 @@
+use Rattle.std.proofs.Common.{refl}
+use Rattle.txn_record.specs.declared.entry.Outcome.TheVariants as outcome
+use Rattle.txn_runner.proofs.Answered.{end_shown}
 use Rattle.std.proofs.lemmas.Result.{err_from_is_err_and}
 use Rattle.std.proofs.Common.{None}
 use Rattle.txn_record.specs.declared.state.State.TheVariants as state
@@ -33,3 +36,6 @@ returns-in_err-must_hit-clause-uses g c = λ told. let p = err_from_is_err_and c
 
 pub returns-in_err-must_hit-clause-stays : goal.returns-in_err-must_hit-clause-stays
 returns-in_err-must_hit-clause-stays g c = λ told. let p = err_from_is_err_and c.from_residual.result c.from_residual.ensures.1 in rw p.1 (same_record _ _ _ (c.in_err-must_hit.ensures.left told (finish_hits _ _ (c.requires.worth told))))
+
+pub returns-clause-shown : goal.returns-clause-shown
+returns-clause-shown g c = end_shown _ _ _ _ _ outcome.Applied state.Applying state.Applied None None refl c.in_ok-must_hit.ensures.hit
