@@ -3,6 +3,7 @@
 
 import glob
 import os
+import re
 
 CRATES = os.path.join(os.path.dirname(os.path.abspath(__file__)), "..", "crates")
 
@@ -15,11 +16,19 @@ def lines(paths):
     return total
 
 
+def tests_among(sources):
+    """The files that the crate's root names for tests alone."""
+    root = next(path for path in sources if os.path.basename(path) in ("lib.rt", "main.rt"))
+    with open(root, encoding="utf-8") as text:
+        names = re.findall(r"#\[cfg\(test\)\]\nmod (\w+);", text.read())
+    return [path for path in sources if os.path.basename(path)[:-3] in names]
+
+
 def row(crate):
-    """Code is all of `src` but `tests.rt`."""
+    """Code is all of `src` but the tests."""
     folder = os.path.join(CRATES, crate)
     sources = glob.glob(os.path.join(folder, "src", "*.rt"))
-    tests = [path for path in sources if path.endswith("/tests.rt")]
+    tests = tests_among(sources)
     return (crate, lines(sources) - lines(tests), lines(tests),
             lines(glob.glob(os.path.join(folder, "specs", "*.antt"))),
             lines(glob.glob(os.path.join(folder, "proofs", "**", "*.antt"), recursive=True)),
