@@ -170,9 +170,10 @@ module _ {S : Type 0} (content : S → Content) (place : S → ℕ → Content) 
       → ((order : List Entry) → WorksOn content place calls now next order order txn.id) → record_at (content next) txn.id ≡ record_at (content now) txn.id → Every (HasOwnOperations (content next)) waiting
   submitting_refused old now next waiting txn left h works still =
       let apart = apart_from txn.id left (not_false (waits left txn.id) (and_parts _ _ h.distinct).0) in
-      h.own (content next) (keeps_present now next txn h.may_begin.0.fresh works)
-      (own_none (content next) txn (still ∙ h.may_begin.0.fresh),
-          both_every (λ other. other.id ≢ txn.id) (MayBegin (content now)) (HasOwnOperations (content next)) (λ other apart may. own_none (content next) other ((works []).others.records other.id apart ∙ may.fresh)) left apart h.may_begin.1)
+      h.own (content next) (keeps_present now next txn h.may_begin.0.fresh works) (
+        own_none (content next) txn (still ∙ h.may_begin.0.fresh),
+        both_every (λ other. other.id ≢ txn.id) (MayBegin (content now)) (HasOwnOperations (content next)) (λ other apart may. own_none (content next) other ((works []).others.records other.id apart ∙ may.fresh)) left apart h.may_begin.1,
+      )
 
   pub submitting_ends : (old now : S) (waiting : List Waiting) → MayRun (content old) waiting → IsSubmitting content place calls old now waiting [] → IsBegun (content now) waiting
   submitting_ends old now waiting may h = record {
