@@ -4,9 +4,9 @@ use Rattle.txn_key.specs.declared.id.TxnId.{TxnId}
 use Rattle.txn_key.specs.declared.id.Token.{Token}
 use Rattle.txn_key.specs.declared.key.Key.{Key}
 use Rattle.store_trait.specs.Edits.{with_token}
-use Rattle.store_trait.specs.View.{View, valid_nonce, HasKey}
-use Rattle.store_trait.specs.Readiness.{token, In, Before, StandsAt}
-use Rattle.store_trait.specs.Later.{IsLater}
+use Rattle.store_laws.specs.View.{View, valid_nonce, HasKey}
+use Rattle.store_laws.specs.Readiness.{token, In, Before, StandsAt}
+use Rattle.store_laws.specs.Later.{IsLater}
 use Rattle.store_laws.proofs.Shapes.{PutsQueue, AddsToken}
 use Rattle.store_laws.proofs.Queues.{in_with, in_without, before_with, before_without}
 use Rattle.store_laws.proofs.Equals.{by_key}
@@ -19,7 +19,7 @@ each_queue {old = old} {key = key} {queue = queue} puts P here others other =
     subst (P other) (sym (puts.queues other)) (by_key other key (λ b. P other (if b then queue else old.queue_at other)) (λ e. subst (λ (k : Key). P k queue) (sym e) here) (λ e. others other))
 
 -- A token of a present record that has the key is put at the end of the owner queue. It isn't the
--- record's valid token: that record is preparing, or decided with another nonce.
+-- record's valid token: that record is preparing, or prepared with another nonce.
 pub add_step : {old new : View} (key : Key) (z : Token) → IsOrderly old → AddsToken old new key z → HasKey old z.id key → valid_nonce old z.id ≢ Some z.nonce → IsOrderlyStep old new
 add_step {old = old} {new = new} key z o change has other = record { later = later; orderly = orderly }
   where

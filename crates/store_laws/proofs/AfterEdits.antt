@@ -9,8 +9,8 @@ use Rattle.txn_key.specs.declared.key.Key.{Key}
 use Rattle.store_trait.specs.Cells.{as_record, as_doc, as_stash, as_counter}
 use Rattle.store_trait.specs.Contents.{Content}
 use Rattle.store_trait.specs.Edits.{puts, hit_add_token, hit_place, unmarked, with_token, put_under, edited}
-use Rattle.store_trait.specs.Readiness.{In}
-use Rattle.store_trait.specs.View.{look, record_at, doc_at, stash_at, counter, owner_queue}
+use Rattle.store_laws.specs.Readiness.{In}
+use Rattle.store_laws.specs.View.{look, record_at, doc_at, stash_at, counter, owner_queue}
 use Rattle.store_trait.specs.declared.cell.Cell.{Cell}
 use Rattle.store_trait.specs.declared.cell.Cell.TheVariants as cell
 use Rattle.store_trait.specs.declared.cell.DocCell.{DocCell}

@@ -1,12 +1,12 @@
--- A decided record among settled ones is ready.
+-- A prepared record among settled ones is ready.
 use Rattle.std.proofs.Common.{◌≡◌, ◌≢◌, true, false, List, [], ◌∷◌, ◌⊎◌, inl, inr, ⊎_elim, sym, ap, ◌∙◌, refl, subst, true≢false}
 use Rattle.txn_key.specs.declared.id.TxnId.{TxnId}
 use Rattle.txn_key.specs.declared.id.Token.{Token}
 use Rattle.txn_key.specs.declared.key.Key.{Key}
 use Rattle.txn_record.specs.Walks.{Leads}
-use Rattle.store_trait.specs.View.{View, decided, settled}
-use Rattle.store_trait.specs.Readiness.{token, In, Before, Precedes, Ancestor, IsReady}
-use Rattle.store_trait.specs.Later.{NothingNewBefore}
+use Rattle.store_laws.specs.View.{View, was_prepared, settled}
+use Rattle.store_laws.specs.Readiness.{token, In, Before, Precedes, Ancestor, IsReady}
+use Rattle.store_laws.specs.Later.{NothingNewBefore}
 use Rattle.store_laws.specs.Alone.{IsAlone, IsAtRest}
 use Rattle.store_laws.proofs.Shapes.{SameQueues}
 use Rattle.store_laws.proofs.Equals.{same_id_or_not}
@@ -29,9 +29,9 @@ module _ {view : View} {id : TxnId} (alone : IsAlone view id) where
   settled_ancestor _ _ (Leads.Here t) h = h
   settled_ancestor _ _ (Leads.Then a u t walk edge) h = settled_ancestor a u walk (⊎_elim (λ e. inl e) (λ apart. inr (settled_before u t edge apart)) (same_id_or_not u id))
 
-  pub alone_ready : decided view id ≡ true → IsReady view id
+  pub alone_ready : was_prepared view id ≡ true → IsReady view id
   alone_ready d = record {
-    sealed = λ a x walk stands. ⊎_elim (λ e. ap (decided view) e ∙ d) (λ apart. decided_if_chosen view x.id (chosen_if_settled view x.id (alone.others stands.key x (first_in x _ _ stands.here.before) apart))) (same_id_or_not x.id id);
+    sealed = λ a x walk stands. ⊎_elim (λ e. ap (was_prepared view) e ∙ d) (λ apart. decided_if_chosen view x.id (chosen_if_settled view x.id (alone.others stands.key x (first_in x _ _ stands.here.before) apart))) (same_id_or_not x.id id);
     back = λ a walk apart unsettled. absurd (never a walk apart unsettled);
     least = λ a walk apart unsettled. absurd (never a walk apart unsettled);
   }

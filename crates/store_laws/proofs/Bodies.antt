@@ -11,10 +11,10 @@ use Rattle.txn_key.specs.declared.key.Key.{Key}
 use Rattle.store_trait.proofs.NameOrder.{name_cmp_total, name_cmp-IsAntisymmetric}
 use Rattle.store_trait.specs.Cells.{as_doc}
 use Rattle.store_trait.specs.Contents.{Content}
-use Rattle.store_trait.specs.Meaning.{bodies, owned_body}
+use Rattle.store_laws.specs.Meaning.{bodies, owned_body}
 use Rattle.store_trait.specs.Names.{name_cmp}
 use Rattle.store_trait.specs.Owners.{owner_of}
-use Rattle.store_trait.specs.View.{Number, look, doc_at, stash_at, owner_held, doc_held, stash_held, by_side}
+use Rattle.store_laws.specs.View.{Number, look, doc_at, stash_at, owner_held, doc_held, stash_held, by_side}
 use Rattle.store_trait.specs.declared.cell.Cell.{Cell}
 use Rattle.store_trait.specs.declared.cell.Cell.TheVariants as cell
 use Rattle.store_trait.specs.declared.cell.DocCell.{DocCell}

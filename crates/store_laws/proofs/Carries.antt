@@ -1,19 +1,19 @@
--- What stays as it was where nothing new stands before decided records.
+-- What stays as it was where nothing new stands before prepared records.
 use Rattle.std.proofs.Common.{◌≡◌, true, false, Some, ◌⊎◌, inl, inr, ⊎_elim, sym, ◌∙◌}
 use Rattle.txn_key.specs.declared.id.TxnId.{TxnId}
 use Rattle.txn_key.specs.declared.id.Token.{Token}
 use Rattle.txn_record.specs.Walks.{Leads}
-use Rattle.store_trait.specs.View.{View, decided, settled, valid_nonce}
-use Rattle.store_trait.specs.Readiness.{token, StandsAt, Stands, Precedes, Ancestor, Sealed, IsReady, IsClean, IsSpent}
-use Rattle.store_trait.specs.Later.{NothingNewBefore, IsLater}
+use Rattle.store_laws.specs.View.{View, was_prepared, settled, valid_nonce}
+use Rattle.store_laws.specs.Readiness.{token, StandsAt, Stands, Precedes, Ancestor, Sealed, IsReady, IsClean, IsSpent}
+use Rattle.store_laws.specs.Later.{NothingNewBefore, IsLater}
 use Rattle.store_laws.proofs.Views.{decided_if_valid, decided_if_chosen, chosen_if_settled, false_back}
 use Rattle.store_laws.proofs.Orderly.{IsOrderly}
 
-pub decided_ancestor : {view : View} (a id : TxnId) → Ancestor view a id → decided view id ≡ true → decided view a ≡ true
+pub decided_ancestor : {view : View} (a id : TxnId) → Ancestor view a id → was_prepared view id ≡ true → was_prepared view a ≡ true
 decided_ancestor _ _ (Leads.Here _) d = d
 decided_ancestor {view = view} _ _ (Leads.Then a u id walk edge) d = decided_ancestor a u walk (decided_if_valid view u edge.nonce edge.valid)
 
-pub edge_back : {old new : View} → NothingNewBefore old new → (u id : TxnId) → decided old id ≡ true → Sealed old id → Precedes new u id → Precedes old u id
+pub edge_back : {old new : View} → NothingNewBefore old new → (u id : TxnId) → was_prepared old id ≡ true → Sealed old id → Precedes new u id → Precedes old u id
 edge_back back u id d sealed edge =
     let x = token u edge.nonce in
     let stands : Stands _ x id = record { key = edge.stands.key; here = back.stands edge.stands.key x id d edge.stands.here } in
@@ -23,7 +23,7 @@ pub sealed_before : {view : View} (u id : TxnId) → Precedes view u id → Seal
 sealed_before u id edge sealed = λ a x walk stands. sealed a x (Leads.Then a u id walk edge) stands
 
 -- a walk to a sealed record was there before
-pub walk_back : {old new : View} (a id : TxnId) → Ancestor new a id → NothingNewBefore old new → decided old id ≡ true → Sealed old id → Ancestor old a id
+pub walk_back : {old new : View} (a id : TxnId) → Ancestor new a id → NothingNewBefore old new → was_prepared old id ≡ true → Sealed old id → Ancestor old a id
 walk_back _ _ (Leads.Here id) back d sealed = Leads.Here id
 walk_back {old = old} _ _ (Leads.Then a u id walk edge) back d sealed =
     let was = edge_back back u id d sealed edge in
@@ -46,7 +46,7 @@ walk_on _ _ (Leads.Then a u id walk edge) later unsettled =
     let rest = walk_on a u walk later unsettled in
     ⊎_elim (λ kept. Leads.Then a u id rest kept) (λ clean. absurd (cc (clean a rest, unsettled))) (edge_on later u id edge)
 
-pub carry_sealed : {old new : View} → NothingNewBefore old new → (id : TxnId) → decided old id ≡ true → Sealed old id → Sealed new id
+pub carry_sealed : {old new : View} → NothingNewBefore old new → (id : TxnId) → was_prepared old id ≡ true → Sealed old id → Sealed new id
 carry_sealed back id d sealed = λ a x walk stands.
     let was = walk_back a id walk back d sealed in
     back.decides x.id (sealed a x was (record { key = stands.key; here = back.stands stands.key x a (decided_ancestor a id was d) stands.here }))
@@ -60,7 +60,7 @@ pub carry_spent : {old new : View} → NothingNewBefore old new → IsOrderly ol
 carry_spent back o x (inl stale) = inl (record { decides = back.decides x.id stale.decides; other = λ e. stale.other (sym (back.nonces x.id stale.decides) ∙ e) })
 carry_spent back o x (inr clean) = inr (carry_clean back o x.id clean)
 
-pub carry_ready : {old new : View} → IsLater old new → (id : TxnId) → decided old id ≡ true → settled new id ≡ false → IsReady old id → IsReady new id
+pub carry_ready : {old new : View} → IsLater old new → (id : TxnId) → was_prepared old id ≡ true → settled new id ≡ false → IsReady old id → IsReady new id
 carry_ready {old = old} {new = new} later id d unsettled ready = record {
   sealed = carry_sealed later.back id d ready.sealed;
   back = λ a walk other open_. walk_on id a (ready.back a (was a walk) other (before a open_)) later unsettled;

@@ -11,9 +11,9 @@ use Rattle.txn_record.specs.declared.record.Record.{Record}
 use Rattle.store_trait.proofs.NameOrder.{name_cmp-IsAntisymmetric}
 use Rattle.store_trait.specs.Contents.{Content}
 use Rattle.store_trait.specs.Names.{name_cmp, may_stand}
-use Rattle.store_trait.specs.View.{View, look, record_at, doc_at, stash_at, counter}
-use Rattle.store_trait.specs.Later.{IsLater}
-use Rattle.store_trait.specs.Soundness.{IsSound, is_numbered, HasSoundTokens, AllBelow, tokens_of_doc, tokens_of_stash}
+use Rattle.store_laws.specs.View.{View, look, record_at, doc_at, stash_at, counter}
+use Rattle.store_laws.specs.Later.{IsLater}
+use Rattle.store_laws.specs.Soundness.{IsSound, is_numbered, HasSoundTokens, AllBelow, tokens_of_doc, tokens_of_stash}
 use Rattle.store_trait.specs.declared.cell.Cell.{Cell}
 use Rattle.store_trait.specs.declared.cell.Cell.TheVariants as cell
 use Rattle.store_trait.specs.declared.cell.DocCell.{DocCell}

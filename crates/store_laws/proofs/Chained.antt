@@ -5,10 +5,10 @@ use Rattle.txn_record.specs.declared.op.Op.{Op}
 use Rattle.txn_record.specs.declared.state.State.{State}
 use Rattle.txn_record.specs.declared.state.State.TheVariants as state
 use Rattle.store_trait.specs.Contents.{Content}
-use Rattle.store_trait.specs.Done.{StaysDone, HasPassed, AllPassed, progress}
-use Rattle.store_trait.specs.Later.{may_follow, NothingLost}
-use Rattle.store_trait.specs.Steps.{IsStep}
-use Rattle.store_trait.specs.View.{look}
+use Rattle.store_laws.specs.Done.{StaysDone, HasPassed, AllPassed, progress}
+use Rattle.store_laws.specs.Later.{may_follow, NothingLost}
+use Rattle.store_laws.specs.Steps.{IsStep}
+use Rattle.store_laws.specs.View.{look}
 use Rattle.store_laws.proofs.Later.{later_then}
 use Rattle.store_laws.proofs.Lost.{lost_then}
 use Rattle.store_laws.proofs.Orderly.{orderly}

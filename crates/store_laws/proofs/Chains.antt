@@ -7,8 +7,8 @@ use Rattle.txn_key.specs.Keys.{same_key}
 use Rattle.txn_key.specs.declared.key.Key.{Key}
 use Rattle.txn_record.specs.Revnos.{follows, first_on, is_on_chain, number_after}
 use Rattle.txn_record.specs.declared.op.Op.{Op}
-use Rattle.store_trait.specs.Meaning.{not_done}
-use Rattle.store_trait.specs.View.{View, IsOn, held_number, epoch_at}
+use Rattle.store_laws.specs.Meaning.{not_done}
+use Rattle.store_laws.specs.View.{View, IsOn, held_number, epoch_at}
 use Rattle.store_laws.proofs.NumberAfter.{after_above}
 use Rattle.store_laws.proofs.Runs.{same_key-equal, same_key-itself}
 use Rattle.store_laws.specs.Chains.{IsChainFrom}

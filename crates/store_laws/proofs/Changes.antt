@@ -4,13 +4,13 @@ use Rattle.std.specs.Option.{option_and_then}
 use Rattle.txn_key.specs.declared.id.TxnId.{TxnId}
 use Rattle.txn_key.specs.declared.id.Token.{Token}
 use Rattle.txn_key.specs.declared.key.Key.{Key}
-use Rattle.txn_record.specs.States.{is_decided_state, is_settled_state, is_chosen_state}
+use Rattle.txn_record.specs.States.{was_prepared_state, is_settled_state, was_decided_state}
 use Rattle.txn_record.specs.declared.record.Record.{Record}
 use Rattle.txn_record.specs.declared.state.State.TheVariants as state
 use Rattle.store_trait.specs.Names.{same_state}
-use Rattle.store_trait.specs.View.{View, decided, settled, chosen, applying, waits_for_documents, valid_nonce, nonce_if_decided, state_passes, HasKey, IsOn}
-use Rattle.store_trait.specs.Readiness.{token, In, Before, StandsAt, IsReady, Sealed}
-use Rattle.store_trait.specs.Later.{IsUndecided, IsLater}
+use Rattle.store_laws.specs.View.{View, was_prepared, settled, was_decided, applying, is_queued_state, valid_nonce, nonce_if_prepared, state_passes, HasKey, IsOn}
+use Rattle.store_laws.specs.Readiness.{token, In, Before, StandsAt, IsReady, Sealed}
+use Rattle.store_laws.specs.Later.{IsUndecided, IsLater}
 use Rattle.store_laws.proofs.Shapes.{SameRecords, SameQueues, SameHeld}
 use Rattle.store_laws.proofs.Views.{decided_if_valid}
 use Rattle.store_laws.proofs.Orderly.{IsOrderly}
@@ -23,21 +23,21 @@ pub record IsOrderlyStep (old new : View) : Type 0 where
 
 -- what a record, where it is present, goes on to
 pub record RecordGoes (old new : View) (id : TxnId) : Type 0 where
-  pub decides : decided old id ≡ true → decided new id ≡ true
-  pub chooses : chosen old id ≡ true → chosen new id ≡ true
+  pub decides : was_prepared old id ≡ true → was_prepared new id ≡ true
+  pub chooses : was_decided old id ≡ true → was_decided new id ≡ true
   pub settles : settled old id ≡ true → settled new id ≡ true
   pub keys : (key : Key) → HasKey old id key → HasKey new id key
-  pub nonces : decided old id ≡ true → valid_nonce new id ≡ valid_nonce old id
+  pub nonces : was_prepared old id ≡ true → valid_nonce new id ≡ valid_nonce old id
 
 -- a record that stays as it is
 
-pub same_decided : (old new : View) (id : TxnId) → new.record_at id ≡ old.record_at id → decided new id ≡ decided old id
-unfolding decided
-same_decided old new id e = ap (state_passes is_decided_state) e
+pub same_decided : (old new : View) (id : TxnId) → new.record_at id ≡ old.record_at id → was_prepared new id ≡ was_prepared old id
+unfolding was_prepared
+same_decided old new id e = ap (state_passes was_prepared_state) e
 
-pub same_chosen : (old new : View) (id : TxnId) → new.record_at id ≡ old.record_at id → chosen new id ≡ chosen old id
-unfolding chosen
-same_chosen old new id e = ap (state_passes is_chosen_state) e
+pub same_chosen : (old new : View) (id : TxnId) → new.record_at id ≡ old.record_at id → was_decided new id ≡ was_decided old id
+unfolding was_decided
+same_chosen old new id e = ap (state_passes was_decided_state) e
 
 pub same_settled : (old new : View) (id : TxnId) → new.record_at id ≡ old.record_at id → settled new id ≡ settled old id
 unfolding settled
@@ -49,7 +49,7 @@ same_applying old new id e = ap (state_passes (same_state state.Applying)) e
 
 pub same_nonce : (old new : View) (id : TxnId) → new.record_at id ≡ old.record_at id → valid_nonce new id ≡ valid_nonce old id
 unfolding valid_nonce
-same_nonce old new id e = ap (option_and_then nonce_if_decided) e
+same_nonce old new id e = ap (option_and_then nonce_if_prepared) e
 
 pub same_goes : (old new : View) (id : TxnId) → new.record_at id ≡ old.record_at id → RecordGoes old new id
 same_goes old new id e = record {
@@ -83,10 +83,10 @@ later_by_records {old = old} goes same counter held = record {
 
 -- the rules of an orderly look, at one record
 pub record IsOrderlyAt (view : View) (id : TxnId) : Type 0 where
-  pub drawn : (rec : Record) → view.record_at id ≡ Some rec → is_decided_state rec.state ≡ true → is_some rec.nonce ≡ true
-  pub queued : (rec : Record) (nonce : ℕ) (key : Key) → view.record_at id ≡ Some rec → IsTrue (waits_for_documents rec.state) → rec.nonce ≡ Some nonce → IsOn key rec.ops → In (token id nonce) (view.queue_at key)
+  pub drawn : (rec : Record) → view.record_at id ≡ Some rec → was_prepared_state rec.state ≡ true → is_some rec.nonce ≡ true
+  pub queued : (rec : Record) (nonce : ℕ) (key : Key) → view.record_at id ≡ Some rec → IsTrue (is_queued_state rec.state) → rec.nonce ≡ Some nonce → IsOn key rec.ops → In (token id nonce) (view.queue_at key)
   pub ready : applying view id ≡ true → IsReady view id
-  pub sealed : chosen view id ≡ true → Sealed view id
+  pub sealed : was_decided view id ≡ true → Sealed view id
 
 pub orderly_by_records : {old new : View} → IsOrderly old → IsLater old new → SameQueues old new → ((id : TxnId) → IsOrderlyAt new id) → IsOrderly new
 orderly_by_records o later same each = record {

@@ -8,19 +8,19 @@ use Rattle.txn_key.specs.Keys.{same_key}
 use Rattle.txn_key.specs.declared.id.TxnId.{TxnId}
 use Rattle.txn_key.specs.declared.key.Key.{Key}
 use Rattle.txn_record.specs.Revnos.{is_present, has_effect, number_after, is_on_chain, follows, stays_within}
-use Rattle.txn_record.specs.States.{is_chosen_state}
+use Rattle.txn_record.specs.States.{was_decided_state}
 use Rattle.txn_record.specs.declared.op.Change.{Change}
 use Rattle.txn_record.specs.declared.op.Op.{Op}
 use Rattle.txn_record.specs.declared.record.Record.{Record}
 use Rattle.txn_record.specs.declared.state.State.TheVariants as state
 use Rattle.store_trait.specs.Contents.{Content}
-use Rattle.store_trait.specs.Done.{HasPassed, AllPassed, progress}
+use Rattle.store_laws.specs.Done.{HasPassed, AllPassed, progress}
 use Rattle.store_trait.specs.Edits.{moved, edited}
-use Rattle.store_trait.specs.Meaning.{pending_of, not_done}
+use Rattle.store_laws.specs.Meaning.{pending_of, not_done}
 use Rattle.store_trait.specs.Names.{same_state}
-use Rattle.store_trait.specs.Soundness.{IsSound, agree, has_revnos}
-use Rattle.store_trait.specs.Steps.{IsQuiet}
-use Rattle.store_trait.specs.View.{View, look, record_at, applying, IsOn, held_number, epoch_at}
+use Rattle.store_laws.specs.Soundness.{IsSound, agree, has_revnos}
+use Rattle.store_laws.specs.Steps.{IsQuiet}
+use Rattle.store_laws.specs.View.{View, look, record_at, applying, IsOn, held_number, epoch_at}
 use Rattle.store_trait.specs.declared.cell.Cell.TheVariants as cell
 use Rattle.store_trait.specs.declared.edit.Edit.TheVariants as edit
 use Rattle.store_trait.specs.declared.name.Name.TheVariants as name
@@ -54,10 +54,10 @@ record Waiting (view : View) (op : Op) (ops : List Op) (revnos : List ℤ) : Typ
 test_le : (a b : ℕ) → nat_le a b ≡ true → a ≤ b
 test_le a b e = grind (arith, nat_tests)
 
-waiting : (view : View) (op : Op) (ops : List Op) (revnos : List ℤ) → IsAmong op (not_done view ops revnos) → Waiting view op ops revnos
-waiting view op [] revnos among = absurd among
-waiting view op (o ∷ ops) [] among = absurd among
-waiting view op (o ∷ ops) (x ∷ revnos) among = by (nat_le (epoch_at view o.key) (unsigned_abs x)) refl among (waiting view op ops revnos)
+still_waits : (view : View) (op : Op) (ops : List Op) (revnos : List ℤ) → IsAmong op (not_done view ops revnos) → Waiting view op ops revnos
+still_waits view op [] revnos among = absurd among
+still_waits view op (o ∷ ops) [] among = absurd among
+still_waits view op (o ∷ ops) (x ∷ revnos) among = by (nat_le (epoch_at view o.key) (unsigned_abs x)) refl among (still_waits view op ops revnos)
   where
     shift : Waiting view op ops revnos → Waiting view op (o ∷ ops) (x ∷ revnos)
     shift w = record { revno = w.revno; at = inr w.at; reached = w.reached }
@@ -153,7 +153,7 @@ module _ (c : Content) (s : IsSound c) (id : TxnId) (was : Record) (there : reco
     idles key on = (
       only key (on_pending (look c) key was on).1,
       run_on-idle key (pending_of (look c) was) _ (λ op among on_key.
-          let w = waiting (look c) op was.ops numbers (subst (IsAmong op) (pending_of-applying (look c) was was.ops numbers from refl numbered) among) in
+          let w = still_waits (look c) op was.ops numbers (subst (IsAmong op) (pending_of-applying (look c) was was.ops numbers from refl numbered) among) in
           let number = at_owner op w.revno w.at w.reached ∙ ap owner on_key in
           idle_body op.change w.revno (body_in ((look c).held_at key)) (held_agrees c s key ∙ ap is_present (sym number))
           (idle_from op.key op w.revno w.at refl w.reached)),
@@ -164,7 +164,7 @@ module _ (c : Content) (s : IsSound c) (id : TxnId) (was : Record) (there : reco
     closed = record {
       step = settled_step c id state.Applying state.Applied was s there from refl refl refl refl (close_step id was (orderly c s) (record_looks c id rec) there from) (done_put c id rec all_passed);
       means = meaning-closed c id s.kinds was there rec (record_looks c id rec).held (idle c rec refl) idles;
-      none = λ at. decided_by-put c at id rec s.kinds ∙ ap option_to_list (settled_already c id was rec s there refl (ap is_chosen_state from) at);
+      none = λ at. decided_by-put c at id rec s.kinds ∙ ap option_to_list (settled_already c id was rec s there refl (ap was_decided_state from) at);
     }
       where
         rec : Record

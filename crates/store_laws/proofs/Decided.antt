@@ -5,13 +5,13 @@ use Rattle.std.specs.FinMap.{insert, entries}
 use Rattle.std.specs.List.{AllByRecursion, filter_map, cons_option}
 use Rattle.std.proofs.lemmas.List.Elements.{filter_map-append}
 use Rattle.txn_key.specs.declared.id.TxnId.{TxnId}
-use Rattle.txn_record.specs.States.{is_chosen_state}
+use Rattle.txn_record.specs.States.{was_decided_state}
 use Rattle.txn_record.specs.declared.entry.Entry.{Entry}
 use Rattle.txn_record.specs.declared.record.Record.{Record}
 use Rattle.store_trait.specs.Contents.{Content}
-use Rattle.store_trait.specs.Decisions.{decided_by, decision, entry_at}
-use Rattle.store_trait.specs.Meaning.{records}
-use Rattle.store_trait.specs.View.{look, record_at, chosen, state_passes}
+use Rattle.store_laws.specs.Decisions.{decided_by, decision, entry_at}
+use Rattle.store_laws.specs.Meaning.{records}
+use Rattle.store_laws.specs.View.{look, record_at, was_decided, state_passes}
 use Rattle.store_trait.specs.declared.cell.Cell.{Cell}
 use Rattle.store_trait.specs.declared.cell.Cell.TheVariants as cell
 use Rattle.store_trait.specs.declared.name.Name.{Name}
@@ -20,16 +20,16 @@ use Rattle.store_laws.proofs.Records.{HasKinds, IsStanding, records_in, all_stan
 
 -- the decision that a record tells of, after a content
 abbrev pub newly_chosen : Content → ℕ → Record → Option Entry
-newly_chosen old at rec = if is_chosen_state rec.state && not (chosen (look old) rec.id) then Some (entry_at at rec) else None
+newly_chosen old at rec = if was_decided_state rec.state && not (was_decided (look old) rec.id) then Some (entry_at at rec) else None
 
 by_records : (old : Content) (at : ℕ) (es : List (Name × Cell)) → filter_map (λ (entry : Name × Cell). decision old at entry.1) es ≡ filter_map (newly_chosen old at) (records_in es)
 by_records old at [] = refl
 by_records old at ((n, cell.Record rec) ∷ es) = ap (cons_option (newly_chosen old at rec)) (by_records old at es)
 by_records old at ((n, _) ∷ es) = by_records old at es
 
-chosen_as_stored : (c : Content) (rec : Record) → record_at c rec.id ≡ Some rec → chosen (look c) rec.id ≡ is_chosen_state rec.state
-unfolding chosen look
-chosen_as_stored c rec there = ap (state_passes is_chosen_state) there
+chosen_as_stored : (c : Content) (rec : Record) → record_at c rec.id ≡ Some rec → was_decided (look c) rec.id ≡ was_decided_state rec.state
+unfolding was_decided look
+chosen_as_stored c rec there = ap (state_passes was_decided_state) there
 
 nothing_new : (b : Bool) (e : Entry) → (if b && not b then Some e else None) ≡ None
 nothing_new true e = refl

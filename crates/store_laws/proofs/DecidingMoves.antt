@@ -6,20 +6,20 @@ use Rattle.std.specs.FinMap.{insert}
 use Rattle.txn_key.specs.declared.id.TxnId.{TxnId}
 use Rattle.txn_key.specs.declared.key.Key.{Key}
 use Rattle.txn_record.specs.Effects.{tests, changes_fit}
-use Rattle.txn_record.specs.States.{is_chosen_state, is_decided_state}
+use Rattle.txn_record.specs.States.{was_decided_state, was_prepared_state}
 use Rattle.txn_record.specs.declared.op.Op.{Op}
 use Rattle.txn_record.specs.declared.record.Record.{Record}
 use Rattle.txn_record.specs.declared.state.State.TheVariants as state
 use Rattle.store_trait.specs.Contents.{Content}
-use Rattle.store_trait.specs.Decisions.{entry_at}
+use Rattle.store_laws.specs.Decisions.{entry_at}
 use Rattle.store_trait.specs.Edits.{moved, edited}
-use Rattle.store_trait.specs.Later.{IsUndecided}
-use Rattle.store_trait.specs.Meaning.{meaning, bodies, not_done}
+use Rattle.store_laws.specs.Later.{IsUndecided}
+use Rattle.store_laws.specs.Meaning.{meaning, bodies, not_done}
 use Rattle.store_trait.specs.Names.{same_state}
-use Rattle.store_trait.specs.Readiness.{IsReady}
-use Rattle.store_trait.specs.Soundness.{IsSound, StandsOnChain, PendingFits}
-use Rattle.store_trait.specs.Steps.{Applies, Aborts}
-use Rattle.store_trait.specs.View.{look, record_at, IsOn, chosen}
+use Rattle.store_laws.specs.Readiness.{IsReady}
+use Rattle.store_laws.specs.Soundness.{IsSound, StandsOnChain, PendingFits}
+use Rattle.store_laws.specs.Steps.{Applies, Aborts}
+use Rattle.store_laws.specs.View.{look, record_at, IsOn, was_decided}
 use Rattle.store_trait.specs.declared.cell.Cell.TheVariants as cell
 use Rattle.store_trait.specs.declared.edit.Edit.TheVariants as edit
 use Rattle.store_trait.specs.declared.name.Name.TheVariants as name
@@ -45,17 +45,17 @@ use Rattle.store_laws.proofs.SoundParts.{sound_put_record}
 use Rattle.store_laws.proofs.Done.{done_put}
 use Rattle.store_laws.proofs.Views.{chosen_at, decided_at}
 
--- a prepared record that comes to be chosen is the one decision
-newly : (c : Content) (at : ℕ) (rec : Record) → chosen (look c) rec.id ≡ false → is_chosen_state rec.state ≡ true → newly_chosen c at rec ≡ Some (entry_at at rec)
+-- a prepared record that comes to be decided is the one decision
+newly : (c : Content) (at : ℕ) (rec : Record) → was_decided (look c) rec.id ≡ false → was_decided_state rec.state ≡ true → newly_chosen c at rec ≡ Some (entry_at at rec)
 newly c at rec was is = λ i. cond (is i && not (was i)) (Some (entry_at at rec)) None
 
 module _ (c : Content) (id : TxnId) (was : Record) (s : IsSound c) (there : record_at c id ≡ Some was) (from : was.state ≡ state.Prepared) (ready : IsReady (look c) id) where
   undecided : IsUndecided (look c) id
   unfolding look
-  undecided = record { prepared = decided_at (look c) id was there ∙ ap is_decided_state from; waits = chosen_at (look c) id was there ∙ ap is_chosen_state from }
+  undecided = record { prepared = decided_at (look c) id was there ∙ ap was_prepared_state from; waits = chosen_at (look c) id was there ∙ ap was_decided_state from }
 
-  unchosen_yet : chosen (look c) was.id ≡ false
-  unchosen_yet = ap (chosen (look c)) (sym (own_id c id was s there)) ∙ undecided.waits
+  unchosen_yet : was_decided (look c) was.id ≡ false
+  unchosen_yet = ap (was_decided (look c)) (sym (own_id c id was s there)) ∙ undecided.waits
 
   -- no applying record is on a key of a ready record that is undecided
   pub free_keys : (key : Key) → IsOn key was.ops → NoneApplies (look c) key
@@ -80,7 +80,7 @@ module _ (c : Content) (id : TxnId) (was : Record) (s : IsSound c) (there : reco
     unfolding look
     apply_decides tested = subst (λ (d : Content). Applies c d rec) (sym (moves_there c id state.Prepared state.Applying None (Some revnos) was there from)) (record {
       step = record { sound = sound; later = step.later; lost = lost_moved id was rec (record_looks c id rec) there (goes_applying was revnos (stored_numbers c id was s there) from); done = done_put c id rec (λ w revnos t applies numbers applied. absurd (cc applied)) };
-      chosen = record { before = unchosen_yet; now = ap (record_at d) (sym (own_id c id was s there)) ∙ put_here id rec (record_looks c id rec).puts; state = refl };
+      decides = record { before = unchosen_yet; now = ap (record_at d) (sym (own_id c id was s there)) ∙ put_here id rec (record_looks c id rec).puts; state = refl };
       tested = tested;
       means = meaning-applied c id s.kinds was there rec (record_looks c id rec).held (idle c was (ap (same_state state.Applying) from)) fresh free_keys;
       one = λ at. decided_by-put c at id rec s.kinds ∙ ap option_to_list (newly c at rec unchosen_yet refl);
@@ -103,7 +103,7 @@ module _ (c : Content) (id : TxnId) (was : Record) (s : IsSound c) (there : reco
   unfolding look
   abort_decides failed = subst (λ (d : Content). Aborts c d rec) (sym (moves_there c id state.Prepared state.Aborting None None was there from)) (record {
     step = record { sound = sound; later = step.later; lost = lost_moved id was rec (record_looks c id rec) there (goes_plainly was state.Prepared state.Aborting from refl); done = done_put c id rec (λ w revnos t applies numbers applied. absurd (cc applied)) };
-    chosen = record { before = unchosen_yet; now = ap (record_at d) (sym (own_id c id was s there)) ∙ put_here id rec (record_looks c id rec).puts; state = refl };
+    decides = record { before = unchosen_yet; now = ap (record_at d) (sym (own_id c id was s there)) ∙ put_here id rec (record_looks c id rec).puts; state = refl };
     failed = failed;
     means = meaning-put c id rec s.kinds (record_looks c id rec).held (in_place c id was rec there (idle c rec refl ∙ sym (idle c was (ap (same_state state.Applying) from))));
     one = λ at. decided_by-put c at id rec s.kinds ∙ ap option_to_list (newly c at rec unchosen_yet refl);

@@ -7,10 +7,10 @@ use Rattle.txn_key.specs.declared.key.Key.{Key}
 use Rattle.store_trait.specs.Cells.{as_record, as_doc, as_counter}
 use Rattle.store_trait.specs.Contents.{Content}
 use Rattle.store_trait.specs.Edits.{puts, unmarked, hit_draw_nonce, hit_add_token, nonce_limit, with_token, put_under, edited}
-use Rattle.store_trait.specs.Meaning.{records}
-use Rattle.store_trait.specs.Soundness.{IsSound, HasSoundTokens, AllBelow, tokens_of_doc, is_numbered}
-use Rattle.store_trait.specs.Steps.{IsQuiet}
-use Rattle.store_trait.specs.View.{look, doc_at, stash_at, Number, owner_queue, owner_held, by_side, doc_held, stash_queue, stash_held, counter, HasKey, valid_nonce}
+use Rattle.store_laws.specs.Meaning.{records}
+use Rattle.store_laws.specs.Soundness.{IsSound, HasSoundTokens, AllBelow, tokens_of_doc, is_numbered}
+use Rattle.store_laws.specs.Steps.{IsQuiet}
+use Rattle.store_laws.specs.View.{look, doc_at, stash_at, Number, owner_queue, owner_held, by_side, doc_held, stash_queue, stash_held, counter, HasKey, valid_nonce}
 use Rattle.store_trait.specs.declared.cell.Cell.{Cell}
 use Rattle.store_trait.specs.declared.cell.Cell.TheVariants as cell
 use Rattle.store_trait.specs.declared.cell.DocCell.{DocCell}
@@ -27,7 +27,7 @@ use Rattle.store_laws.proofs.Decided.{decided_by-same}
 use Rattle.store_laws.proofs.Looks.{nonce_looks, put, doc_records, doc_unseen, doc_queues}
 use Rattle.store_laws.proofs.Queues.{in_left, in_right, in_parts, in_without, once_with}
 use Rattle.store_laws.proofs.Additions.{add_step}
-use Rattle.store_trait.specs.Later.{NothingLost}
+use Rattle.store_laws.specs.Later.{NothingLost}
 use Rattle.store_laws.proofs.Lost.{lost_same, lost_added}
 use Rattle.store_laws.proofs.Meanings.{meaning-same}
 use Rattle.store_laws.proofs.Misses.{quiet_itself}
@@ -35,7 +35,7 @@ use Rattle.store_laws.proofs.Orderly.{orderly}
 use Rattle.store_laws.proofs.Records.{records-put_other}
 use Rattle.store_laws.proofs.SoundParts.{sound_from, sound_chains, chains_same}
 use Rattle.store_laws.proofs.Done.{done_nonce, done_put_doc}
-use Rattle.store_trait.specs.Done.{StaysDone, progress_of}
+use Rattle.store_laws.specs.Done.{StaysDone, progress_of}
 use Rattle.store_laws.proofs.Writes.{count_step}
 
 -- The counter.

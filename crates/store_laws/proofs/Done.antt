@@ -9,9 +9,9 @@ use Rattle.txn_record.specs.declared.op.Op.{Op}
 use Rattle.txn_record.specs.declared.record.Record.{Record}
 use Rattle.txn_record.specs.declared.state.State.TheVariants as state
 use Rattle.store_trait.specs.Contents.{Content}
-use Rattle.store_trait.specs.Done.{progress_of, progress, HasPassed, AllPassed, StaysDone}
+use Rattle.store_laws.specs.Done.{progress_of, progress, HasPassed, AllPassed, StaysDone}
 use Rattle.store_trait.specs.Owners.{epoch}
-use Rattle.store_trait.specs.View.{look, record_at, doc_at, stash_at, owner_held, held_number, epoch_at, by_side, doc_held, stash_held, Number}
+use Rattle.store_laws.specs.View.{look, record_at, doc_at, stash_at, owner_held, held_number, epoch_at, by_side, doc_held, stash_held, Number}
 use Rattle.store_trait.specs.declared.cell.Cell.TheVariants as cell
 use Rattle.store_trait.specs.declared.cell.DocCell.{DocCell}
 use Rattle.store_trait.specs.declared.cell.StashCell.{StashCell}

@@ -12,8 +12,8 @@ use Rattle.txn_record.specs.Effects.{effect, body_after}
 use Rattle.txn_record.specs.declared.op.Op.{Op}
 use Rattle.txn_record.specs.declared.record.Record.{Record}
 use Rattle.store_trait.specs.Contents.{Content}
-use Rattle.store_trait.specs.Meaning.{meaning, pending, pending_of, records}
-use Rattle.store_trait.specs.View.{View, Held, look, record_at, IsOn}
+use Rattle.store_laws.specs.Meaning.{meaning, pending, pending_of, records}
+use Rattle.store_laws.specs.View.{View, Held, look, record_at, IsOn}
 use Rattle.store_trait.specs.declared.cell.Cell.TheVariants as cell
 use Rattle.store_trait.specs.declared.name.Name.TheVariants as name
 use Rattle.store_laws.proofs.Bodies.{body_in}

@@ -8,11 +8,11 @@ use Rattle.txn_key.specs.declared.key.Key.{Key}
 use Rattle.txn_record.specs.Effects.{effect}
 use Rattle.store_trait.specs.Cells.{as_record, as_doc, as_stash}
 use Rattle.store_trait.specs.Contents.{Content}
-use Rattle.store_trait.specs.Meaning.{meaning, owned_body, pending_of}
+use Rattle.store_laws.specs.Meaning.{meaning, owned_body, pending_of}
 use Rattle.store_trait.specs.Names.{name_cmp}
-use Rattle.store_trait.specs.Readiness.{In}
-use Rattle.store_trait.specs.Soundness.{IsSound}
-use Rattle.store_trait.specs.View.{look, record_at, doc_at, stash_at, owner_queue, decided}
+use Rattle.store_laws.specs.Readiness.{In}
+use Rattle.store_laws.specs.Soundness.{IsSound}
+use Rattle.store_laws.specs.View.{look, record_at, doc_at, stash_at, owner_queue, was_prepared}
 use Rattle.store_trait.specs.declared.cell.Cell.{Cell}
 use Rattle.store_trait.specs.declared.name.Name.{Name}
 use Rattle.store_trait.specs.declared.name.Name.TheVariants as name
@@ -37,7 +37,7 @@ pub no_stash : (key : Key) → stash_at nothing key ≡ None
 unfolding stash_at
 no_stash key = ap (option_and_then as_stash) (none_under (name.Stash key))
 
-none_decided : (id : TxnId) → decided (look nothing) id ≡ true → ⊥
+none_decided : (id : TxnId) → was_prepared (look nothing) id ≡ true → ⊥
 unfolding look
 none_decided id d = let (rec, there, state) = present_decided (look nothing) id d in cc (no_record id, there)
 

@@ -4,9 +4,9 @@ use Rattle.txn_key.proofs.KeyOrder.{id_cmp_total}
 use Rattle.txn_key.specs.declared.id.TxnId.{TxnId}
 use Rattle.txn_key.specs.declared.id.Token.{Token}
 use Rattle.txn_key.specs.declared.key.Key.{Key}
-use Rattle.store_trait.specs.View.{View, applying, waiting, valid_nonce, HasKey}
-use Rattle.store_trait.specs.Readiness.{token, In, Before, Ancestor, IsReady}
-use Rattle.store_trait.specs.Later.{IsUndecided}
+use Rattle.store_laws.specs.View.{View, applying, is_queued, valid_nonce, HasKey}
+use Rattle.store_laws.specs.Readiness.{token, In, Before, Ancestor, IsReady}
+use Rattle.store_laws.specs.Later.{IsUndecided}
 use Rattle.txn_record.proofs.WalkLaws.{one_edge}
 use Rattle.store_laws.proofs.States.{waiting_is_decided}
 use Rattle.store_laws.proofs.Views.{waiting_at, valid_nonce_of, unsettled_if_waiting, chosen_if_applying, waiting_if_applying, waiting_if_undecided}
@@ -23,8 +23,8 @@ some_of : {A : Type 0} (o : Option A) → is_some o ≡ true → (x : A) × (o �
 some_of None e = cc
 some_of (Some x) e = (x, refl)
 
-pub is_queued : (view : View) → IsOrderly view → (id : TxnId) (key : Key) → HasKey view id key → waiting view id ≡ true → Queued view id key
-is_queued view o id key has waits =
+pub stands_queued : (view : View) → IsOrderly view → (id : TxnId) (key : Key) → HasKey view id key → is_queued view id ≡ true → Queued view id key
+stands_queued view o id key has waits =
     let state = sym (waiting_at view id has.rec has.there) ∙ waits in
     let d = waiting_is_decided has.rec.state state in
     let (nonce, some) = some_of has.rec.nonce (o.drawn id has.rec has.there d) in
@@ -44,7 +44,7 @@ leads_on key t u one two apart before = one_edge t u (record {
 })
 
 -- where one of two ready records that wait is an ancestor of the other, each has the lesser id
-circle : {view : View} (t u : TxnId) → waiting view t ≡ true → waiting view u ≡ true → t ≢ u → IsReady view t → IsReady view u → Ancestor view t u → ⊥
+circle : {view : View} (t u : TxnId) → is_queued view t ≡ true → is_queued view u ≡ true → t ≢ u → IsReady view t → IsReady view u → Ancestor view t u → ⊥
 circle {view = view} t u t_waits u_waits apart t_ready u_ready walk =
     let u_apart : u ≢ t = λ e. apart (sym e) in
     let t_open = unsettled_if_waiting view t t_waits in
@@ -53,10 +53,10 @@ circle {view = view} t u t_waits u_waits apart t_ready u_ready walk =
     let turned = id_cmp_total.antisymm t u in
     cc (turned, t_less, u_less)
 
-pub never_both : {view : View} → IsOrderly view → (key : Key) (t u : TxnId) → HasKey view t key → HasKey view u key → waiting view t ≡ true → waiting view u ≡ true → t ≢ u → IsReady view t → IsReady view u → ⊥
+pub never_both : {view : View} → IsOrderly view → (key : Key) (t u : TxnId) → HasKey view t key → HasKey view u key → is_queued view t ≡ true → is_queued view u ≡ true → t ≢ u → IsReady view t → IsReady view u → ⊥
 never_both {view = view} o key t u t_has u_has t_waits u_waits apart t_ready u_ready =
-    let one = is_queued view o t key t_has t_waits in
-    let two = is_queued view o u key u_has u_waits in
+    let one = stands_queued view o t key t_has t_waits in
+    let two = stands_queued view o u key u_has u_waits in
     let differ : token t one.nonce ≢ token u two.nonce = λ e. apart (ap (λ (x : Token). x.id) e) in
     ⊎_elim
     (λ first. circle t u t_waits u_waits apart t_ready u_ready (leads_on key t u one two apart first))

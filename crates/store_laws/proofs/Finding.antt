@@ -4,13 +4,13 @@ use Rattle.std.proofs.lemmas.Option.{same_Some}
 use Rattle.txn_key.specs.declared.id.TxnId.{TxnId}
 use Rattle.txn_key.specs.declared.id.Token.{Token}
 use Rattle.txn_key.specs.declared.key.Key.{Key}
-use Rattle.txn_record.specs.States.{is_decided_state}
-use Rattle.store_trait.specs.View.{View, decided, settled, waits_for_documents, valid_nonce, HasKey}
-use Rattle.store_trait.specs.Readiness.{token, In, Before, StandsAt, Precedes, IsClean}
-use Rattle.store_trait.specs.Later.{NothingNewBefore, IsLater}
+use Rattle.txn_record.specs.States.{was_prepared_state}
+use Rattle.store_laws.specs.View.{View, was_prepared, settled, is_queued_state, valid_nonce, HasKey}
+use Rattle.store_laws.specs.Readiness.{token, In, Before, StandsAt, Precedes, IsClean}
+use Rattle.store_laws.specs.Later.{NothingNewBefore, IsLater}
 use Rattle.store_laws.specs.Found.{IsFoundAt, IsListed}
 use Rattle.store_laws.proofs.Carries.{carry_spent}
-use Rattle.store_laws.proofs.Exclusive.{is_queued}
+use Rattle.store_laws.proofs.Exclusive.{stands_queued}
 use Rattle.store_laws.proofs.Orderly.{IsOrderly}
 use Rattle.store_laws.proofs.States.{settled_otherwise}
 use Rattle.store_laws.proofs.Views.{decided_at, settled_at, waiting_at, decided_if_valid}
@@ -35,10 +35,10 @@ found_edge key x id (inl stands) valid apart = inl (record { nonce = x.nonce; va
 found_edge key x id (inr (inl stale)) valid apart = absurd (stale.other valid)
 found_edge key x id (inr (inr clean)) valid apart = inr clean
 
-pub listed_later : {old new : View} → NothingNewBefore old new → (key : Key) (id : TxnId) (found : List Token) → decided old id ≡ true → IsListed old key id found → IsListed new key id found
+pub listed_later : {old new : View} → NothingNewBefore old new → (key : Key) (id : TxnId) (found : List Token) → was_prepared old id ≡ true → IsListed old key id found → IsListed new key id found
 listed_later back key id found d listed = record { all = λ x stands. listed.all x (back.stands key x id d stands) }
 
--- where a record's own token is missing, nothing stands before it, and it is settled if it is decided
+-- where a record's own token is missing, nothing stands before it, and it is settled if it was prepared
 
 pub missing_listed : {view : View} (key : Key) (id : TxnId) (nonce : ℕ) → valid_nonce view id ≡ Some nonce → (In (token id nonce) (view.queue_at key) → ⊥) → IsListed view key id []
 missing_listed {view = view} key id nonce valid missing = record {
@@ -46,13 +46,13 @@ missing_listed {view = view} key id nonce valid missing = record {
 }
 
 pub missing_settled : {view : View} → IsOrderly view → (key : Key) (id : TxnId) (nonce : ℕ) → HasKey view id key → valid_nonce view id ≡ Some nonce → (In (token id nonce) (view.queue_at key) → ⊥) → settled view id ≡ true
-missing_settled {view = view} o key id nonce has valid missing = settled_at view id has.rec has.there ∙ settled_otherwise has.rec.state state (go (waits_for_documents has.rec.state) refl)
+missing_settled {view = view} o key id nonce has valid missing = settled_at view id has.rec has.there ∙ settled_otherwise has.rec.state state (go (is_queued_state has.rec.state) refl)
   where
-    state : is_decided_state has.rec.state ≡ true
+    state : was_prepared_state has.rec.state ≡ true
     state = sym (decided_at view id has.rec has.there) ∙ decided_if_valid view id nonce valid
 
-    go : (b : Bool) → waits_for_documents has.rec.state ≡ b → b ≡ false
+    go : (b : Bool) → is_queued_state has.rec.state ≡ b → b ≡ false
     go false e = refl
     go true e =
-        let queued = is_queued view o id key has (waiting_at view id has.rec has.there ∙ e) in
+        let queued = stands_queued view o id key has (waiting_at view id has.rec has.there ∙ e) in
         absurd (missing (subst (λ (n : ℕ). In (token id n) (view.queue_at key)) (same_Some queued.nonce nonce (sym queued.valid ∙ valid)) queued.inside))

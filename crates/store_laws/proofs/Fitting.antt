@@ -10,7 +10,7 @@ use Rattle.txn_key.specs.declared.key.Key.{Key}
 use Rattle.txn_record.specs.Effects.{effect_of, body_after, tests, changes_fit, change_fits, assertion_holds}
 use Rattle.txn_record.proofs.EffectLaws.{get-effect_of_other}
 use Rattle.txn_record.specs.declared.op.Op.{Op}
-use Rattle.store_trait.specs.View.{IsOn}
+use Rattle.store_laws.specs.View.{IsOn}
 use Rattle.store_laws.proofs.Runs.{run_on, get-effect, same_key-equal}
 
 pub changes_fit-agree : (ops : List Op) (m n : Docs) → ((key : Key) → IsOn key ops → get m key ≡ get n key) → changes_fit ops m ≡ changes_fit ops n

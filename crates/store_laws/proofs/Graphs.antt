@@ -4,9 +4,9 @@ use Rattle.txn_key.specs.declared.id.TxnId.{TxnId}
 use Rattle.txn_key.specs.declared.id.Token.{Token}
 use Rattle.txn_key.specs.declared.key.Key.{Key}
 use Rattle.txn_record.specs.Walks.{Leads}
-use Rattle.store_trait.specs.View.{View, decided, settled, HasKey}
-use Rattle.store_trait.specs.Readiness.{In, token, Ancestor, IsReady, IsClean}
-use Rattle.store_trait.specs.Later.{NothingNewBefore, IsLater}
+use Rattle.store_laws.specs.View.{View, was_prepared, settled, HasKey}
+use Rattle.store_laws.specs.Readiness.{In, token, Ancestor, IsReady, IsClean}
+use Rattle.store_laws.specs.Later.{NothingNewBefore, IsLater}
 use Rattle.store_laws.specs.Gathered.{Gathering, Member, Closed, Edge, Grows, IsGathered, IsFollowed, IsScanned, IsFirst}
 use Rattle.store_laws.specs.Found.{IsListed}
 use Rattle.store_laws.proofs.Carries.{carry_clean, edge_on}
@@ -63,7 +63,7 @@ gathered_later o later known = record {
 pub followed_later : {old new : View} {g : Gathering} → NothingNewBefore old new → (x : Token) (id : TxnId) → IsFollowed old g x id → IsFollowed new g x id
 followed_later back x id f = record { decides = back.decides x.id f.decides; edge = λ valid apart. f.edge (sym (back.nonces x.id f.decides) ∙ valid) apart }
 
-pub scanned_later : {old new : View} {g : Gathering} → NothingNewBefore old new → (id : TxnId) (key : Key) → decided old id ≡ true → IsScanned old g id key → IsScanned new g id key
+pub scanned_later : {old new : View} {g : Gathering} → NothingNewBefore old new → (id : TxnId) (key : Key) → was_prepared old id ≡ true → IsScanned old g id key → IsScanned new g id key
 scanned_later back id key d s = record { all = λ x stands. followed_later back x id (s.all x (back.stands key x id d stands)) }
 
 -- while the gathering grows

@@ -15,7 +15,7 @@ use Rattle.store_trait.specs.Cells.{as_record, as_doc, as_counter}
 use Rattle.store_trait.specs.Contents.{Content}
 use Rattle.store_trait.specs.Edits.{Hit, puts, hit, hit_move, hit_insert_record, hit_add_token, hit_draw_nonce, hit_update, hit_place, unmarked, is_updatable, with_body, nonce_limit, with_token, moved, put_under, edited}
 use Rattle.store_trait.specs.Names.{same_state, same_id, may_stand}
-use Rattle.store_trait.specs.View.{record_at, doc_at, counter}
+use Rattle.store_laws.specs.View.{record_at, doc_at, counter}
 use Rattle.store_trait.specs.declared.cell.Cell.{Cell}
 use Rattle.store_trait.specs.declared.cell.Cell.TheVariants as cell
 use Rattle.store_trait.specs.declared.cell.DocCell.{DocCell}
@@ -24,7 +24,7 @@ use Rattle.store_trait.specs.declared.name.Name.{Name}
 use Rattle.store_trait.specs.declared.name.Name.TheVariants as name
 use Rattle.store_laws.specs.Hits.{HasInserted, HasMoved, HasAdded, HasUpdated, HasDrawn}
 use Rattle.store_laws.proofs.KindsOfMove.{same_states}
-use Rattle.store_trait.specs.Soundness.{IsSound}
+use Rattle.store_laws.specs.Soundness.{IsSound}
 use Rattle.store_laws.proofs.Misses.{same_itself}
 use Rattle.store_laws.proofs.Orderly.{record_under}
 use Rattle.store_laws.proofs.Owning.{doc_under}

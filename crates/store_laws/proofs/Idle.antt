@@ -11,9 +11,9 @@ use Rattle.txn_record.specs.declared.record.Record.{Record}
 use Rattle.txn_record.specs.declared.state.State.TheVariants as state
 use Rattle.txn_record.specs.Effects.{body_after}
 use Rattle.store_trait.specs.Contents.{Content}
-use Rattle.store_trait.specs.Meaning.{pending_of, not_done}
+use Rattle.store_laws.specs.Meaning.{pending_of, not_done}
 use Rattle.store_trait.specs.Names.{same_state}
-use Rattle.store_trait.specs.View.{View, Held, look, record_at, applying, epoch_at, held_number, HasKey, IsOn}
+use Rattle.store_laws.specs.View.{View, Held, look, record_at, applying, epoch_at, held_number, HasKey, IsOn}
 use Rattle.store_trait.specs.declared.name.Name.{Name}
 use Rattle.store_trait.specs.declared.name.Name.TheVariants as name
 use Rattle.store_laws.proofs.Records.{IsStanding}

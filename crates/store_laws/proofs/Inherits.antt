@@ -7,7 +7,7 @@ use Rattle.txn_key.specs.declared.key.Key.{Key}
 use Rattle.txn_record.specs.Revnos.{follows, first_on, is_on_chain, is_within, stays_within, number_after}
 use Rattle.txn_record.specs.declared.op.Change.{Change}
 use Rattle.txn_record.specs.declared.op.Op.{Op}
-use Rattle.store_trait.specs.View.{IsOn}
+use Rattle.store_laws.specs.View.{IsOn}
 use Rattle.store_laws.proofs.Chains.{in_turn, head_number}
 use Rattle.store_laws.proofs.Runs.{same_key-equal, same_key-itself}
 use Rattle.store_laws.specs.Chains.{IsAt}

@@ -3,14 +3,14 @@ use Rattle.std.proofs.Common.{◌≡◌, ℕ, ℤ, true, false, Some, None, List
 use Rattle.std.proofs.lemmas.Option.{same_Some}
 use Rattle.txn_key.specs.declared.id.TxnId.{TxnId}
 use Rattle.txn_key.specs.declared.key.Key.{Key}
-use Rattle.txn_record.specs.States.{is_decided_state, is_settled_state, is_chosen_state}
+use Rattle.txn_record.specs.States.{was_prepared_state, is_settled_state, was_decided_state}
 use Rattle.txn_record.specs.declared.record.Record.{Record}
 use Rattle.txn_record.specs.declared.state.State.{State}
 use Rattle.txn_record.specs.declared.state.State.TheVariants as state
 use Rattle.store_trait.specs.Names.{same_state}
 use Rattle.store_trait.specs.Edits.{moved}
-use Rattle.store_trait.specs.View.{View, waits_for_documents, IsOn, chosen}
-use Rattle.store_trait.specs.Readiness.{token, In, IsReady}
+use Rattle.store_laws.specs.View.{View, is_queued_state, IsOn, was_decided}
+use Rattle.store_laws.specs.Readiness.{token, In, IsReady}
 use Rattle.store_laws.proofs.Shapes.{ChangesRecord}
 use Rattle.store_laws.proofs.Views.{chosen_at}
 use Rattle.store_laws.proofs.Orderly.{IsOrderly}
@@ -34,13 +34,13 @@ pub prepare_step : {old new : View} (id : TxnId) (was : Record) (nonce : ℕ) �
 prepare_step {old = old} id was nonce o change before from queued = move_step id was (moved state.Prepared (Some nonce) None was) o change before (record {
   ops = refl;
   decides = refl;
-  chooses = λ c. absurd (cc (ap is_chosen_state from, c));
+  chooses = λ c. absurd (cc (ap was_decided_state from, c));
   settles = λ s. absurd (cc (ap is_settled_state from, s));
-  nonces = λ d. absurd (cc (ap is_decided_state from, d));
+  nonces = λ d. absurd (cc (ap was_prepared_state from, d));
 }) (record {
   drawn = refl;
   queued = λ n key waits some on. subst_token n (same_Some nonce n some) key on;
-  decided = λ c. absurd (cc c);
+  prepared = λ c. absurd (cc c);
   sealed = λ c. absurd (cc c);
   ready = λ a. absurd (cc a);
 })
@@ -58,9 +58,9 @@ apply_step {old = old} id was revnos o change before from ready = move_step id w
   settles = λ s. absurd (cc (ap is_settled_state from, s));
   nonces = λ d. refl;
 }) (record {
-  drawn = o.drawn id was before (ap is_decided_state from);
-  queued = λ n key waits some on. o.queued id was n key before (ap waits_for_documents from) some on;
-  decided = λ c. ap is_decided_state from;
+  drawn = o.drawn id was before (ap was_prepared_state from);
+  queued = λ n key waits some on. o.queued id was n key before (ap is_queued_state from) some on;
+  prepared = λ c. ap was_prepared_state from;
   sealed = λ c. ready.sealed;
   ready = λ a. ready;
 })
@@ -75,34 +75,34 @@ abort_step {old = old} id was o change before from ready = move_step id was (mov
   settles = λ s. refl;
   nonces = λ d. refl;
 }) (record {
-  drawn = o.drawn id was before (ap is_decided_state from);
+  drawn = o.drawn id was before (ap was_prepared_state from);
   queued = λ n key waits some on. absurd (cc waits);
-  decided = λ c. ap is_decided_state from;
+  prepared = λ c. ap was_prepared_state from;
   sealed = λ c. ready.sealed;
   ready = λ a. absurd (cc a);
 })
 
--- a chosen record comes to a state in which it is settled
-settle_step : {old new : View} (to : State) (id : TxnId) (was : Record) → is_settled_state to ≡ true → is_decided_state to ≡ true → is_chosen_state to ≡ true → waits_for_documents to ≡ false → same_state state.Applying to ≡ false
-    → IsOrderly old → ChangesRecord old new id (moved to None None was) → old.record_at id ≡ Some was → is_chosen_state was.state ≡ true → is_decided_state was.state ≡ true → IsOrderlyStep old new
-settle_step {old = old} to id was settled decided chosen waits applies o change before was_chosen was_decided = move_step id was (moved to None None was) o change before (record {
+-- a decided record comes to a state in which it is settled
+settle_step : {old new : View} (to : State) (id : TxnId) (was : Record) → is_settled_state to ≡ true → was_prepared_state to ≡ true → was_decided_state to ≡ true → is_queued_state to ≡ false → same_state state.Applying to ≡ false
+    → IsOrderly old → ChangesRecord old new id (moved to None None was) → old.record_at id ≡ Some was → was_decided_state was.state ≡ true → was_prepared_state was.state ≡ true → IsOrderlyStep old new
+settle_step {old = old} to id was settled prepared decided waits applies o change before was_chosen was_prepared_then = move_step id was (moved to None None was) o change before (record {
   ops = refl;
-  decides = decided;
-  chooses = λ c. chosen;
+  decides = prepared;
+  chooses = λ c. decided;
   settles = λ s. settled;
   nonces = λ d. refl;
 }) (record {
-  drawn = o.drawn id was before was_decided;
+  drawn = o.drawn id was before was_prepared_then;
   queued = λ n key w some on. absurd (cc (waits, w));
-  decided = λ c. was_decided;
+  prepared = λ c. was_prepared_then;
   sealed = λ c. o.sealed id (chosen_at old id was before ∙ was_chosen);
   ready = λ a. absurd (cc (applies, a));
 })
 
 -- An applying record is applied.
 pub close_step : {old new : View} (id : TxnId) (was : Record) → IsOrderly old → ChangesRecord old new id (moved state.Applied None None was) → old.record_at id ≡ Some was → was.state ≡ state.Applying → IsOrderlyStep old new
-close_step id was o change before from = settle_step state.Applied id was refl refl refl refl refl o change before (ap is_chosen_state from) (ap is_decided_state from)
+close_step id was o change before from = settle_step state.Applied id was refl refl refl refl refl o change before (ap was_decided_state from) (ap was_prepared_state from)
 
 -- An aborting record is aborted.
 pub end_step : {old new : View} (id : TxnId) (was : Record) → IsOrderly old → ChangesRecord old new id (moved state.Aborted None None was) → old.record_at id ≡ Some was → was.state ≡ state.Aborting → IsOrderlyStep old new
-end_step id was o change before from = settle_step state.Aborted id was refl refl refl refl refl o change before (ap is_chosen_state from) (ap is_decided_state from)
+end_step id was o change before from = settle_step state.Aborted id was refl refl refl refl refl o change before (ap was_decided_state from) (ap was_prepared_state from)

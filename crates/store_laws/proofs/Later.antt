@@ -1,9 +1,9 @@
 -- Going forward is an order on contents.
 use Rattle.std.proofs.Common.{◌≡◌, le_trans, arith, true, inl, inr, ⊎_elim, refl, ◌∙◌}
 use Rattle.txn_key.specs.declared.id.TxnId.{TxnId}
-use Rattle.store_trait.specs.View.{View, settled, chosen, applying}
-use Rattle.store_trait.specs.Readiness.{IsReady, Sealed}
-use Rattle.store_trait.specs.Later.{NothingNewBefore, IsUndecided, IsLater}
+use Rattle.store_laws.specs.View.{View, settled, was_decided, applying}
+use Rattle.store_laws.specs.Readiness.{IsReady, Sealed}
+use Rattle.store_laws.specs.Later.{NothingNewBefore, IsUndecided, IsLater}
 use Rattle.store_laws.proofs.Views.{decided_if_chosen, chosen_if_settled, chosen_if_applying, waiting_if_applying, unsettled_if_waiting, false_back}
 use Rattle.store_laws.proofs.Orderly.{IsOrderly}
 use Rattle.store_laws.proofs.Carries.{carry_sealed, carry_spent, carry_ready}
@@ -38,7 +38,7 @@ back_then one two = record {
 
 -- a record that is undecided later on was undecided in between
 between : {a b c : View} → NothingNewBefore a b → NothingNewBefore b c → (id : TxnId) → IsUndecided a id → IsUndecided c id → IsUndecided b id
-between {b = b} {c = c} one two id before after = record { prepared = one.decides id before.prepared; waits = false_back (chosen b id) (chosen c id) (two.chooses id) after.waits }
+between {b = b} {c = c} one two id before after = record { prepared = one.decides id before.prepared; waits = false_back (was_decided b id) (was_decided c id) (two.chooses id) after.waits }
 
 pub later_then : {a b c : View} → IsOrderly b → IsLater a b → IsLater b c → IsLater a c
 later_then {a = a} {b = b} {c = c} o one two = record {
@@ -47,14 +47,14 @@ later_then {a = a} {b = b} {c = c} o one two = record {
   stays = λ key x id h. ⊎_elim (two.stays key x id) (λ spent. inr (carry_spent two.back o x spent)) (one.stays key x id h);
   held = λ id key before ready after h.
       let mid = between one.back two.back id before after in
-      two.held id key mid (carry_ready one id before.prepared (false_back (settled b id) (chosen b id) (chosen_if_settled b id) mid.waits) ready) after (one.back.keys id key h) ∙ one.held id key before ready mid h;
+      two.held id key mid (carry_ready one id before.prepared (false_back (settled b id) (was_decided b id) (chosen_if_settled b id) mid.waits) ready) after (one.back.keys id key h) ∙ one.held id key before ready mid h;
 }
 
--- an applying record stays ready, and a chosen one sealed
+-- an applying record stays ready, and a decided one sealed
 
 pub ready_still : {old new : View} → IsOrderly old → IsLater old new → (id : TxnId) → applying old id ≡ true → applying new id ≡ true → IsReady new id
 ready_still {old = old} {new = new} o later id was is =
     carry_ready later id (decided_if_chosen old id (chosen_if_applying old id was)) (unsettled_if_waiting new id (waiting_if_applying new id is)) (o.ready id was)
 
-pub sealed_still : {old new : View} → IsOrderly old → IsLater old new → (id : TxnId) → chosen old id ≡ true → Sealed new id
+pub sealed_still : {old new : View} → IsOrderly old → IsLater old new → (id : TxnId) → was_decided old id ≡ true → Sealed new id
 sealed_still {old = old} o later id was = carry_sealed later.back id (decided_if_chosen old id was) (o.sealed id was)

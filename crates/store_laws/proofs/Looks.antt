@@ -8,7 +8,7 @@ use Rattle.txn_key.specs.declared.key.Key.{Key}
 use Rattle.txn_record.specs.declared.record.Record.{Record}
 use Rattle.store_trait.specs.Contents.{Content}
 use Rattle.store_trait.specs.Edits.{with_token}
-use Rattle.store_trait.specs.View.{look, doc_at, stash_at, counter, owner_queue, owner_held}
+use Rattle.store_laws.specs.View.{look, doc_at, stash_at, counter, owner_queue, owner_held}
 use Rattle.store_trait.specs.declared.cell.Cell.TheVariants as cell
 use Rattle.store_trait.specs.declared.cell.DocCell.{DocCell}
 use Rattle.store_trait.specs.declared.cell.StashCell.{StashCell}

@@ -11,7 +11,7 @@ use Rattle.store_trait.proofs.NameOrder.{name_cmp_total}
 use Rattle.store_trait.specs.Cells.{as_record, as_doc, as_stash, as_counter}
 use Rattle.store_trait.specs.Contents.{Content}
 use Rattle.store_trait.specs.Names.{name_cmp}
-use Rattle.store_trait.specs.View.{record_at, doc_at, stash_at, counter}
+use Rattle.store_laws.specs.View.{record_at, doc_at, stash_at, counter}
 use Rattle.store_trait.specs.declared.cell.Cell.{Cell}
 use Rattle.store_trait.specs.declared.name.Name.{Name}
 use Rattle.store_trait.specs.declared.name.Name.TheVariants as name

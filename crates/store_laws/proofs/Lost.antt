@@ -9,10 +9,10 @@ use Rattle.txn_record.specs.declared.state.State.{State}
 use Rattle.txn_record.specs.declared.state.State.TheVariants as state
 use Rattle.store_trait.specs.Edits.{moved}
 use Rattle.store_trait.specs.Names.{same_state}
-use Rattle.store_trait.specs.Readiness.{In}
-use Rattle.store_trait.specs.Soundness.{is_numbered_record}
-use Rattle.store_trait.specs.Later.{may_follow, GoesTo, IsStillThere, NothingNewBefore, NothingLost}
-use Rattle.store_trait.specs.View.{View}
+use Rattle.store_laws.specs.Readiness.{In}
+use Rattle.store_laws.specs.Soundness.{is_numbered_record}
+use Rattle.store_laws.specs.Later.{may_follow, GoesTo, IsStillThere, NothingNewBefore, NothingLost}
+use Rattle.store_laws.specs.View.{View}
 use Rattle.store_laws.proofs.Shapes.{SameRecords, SameQueues, ChangesRecord, AddsToken}
 use Rattle.store_laws.proofs.Additions.{each_queue}
 use Rattle.store_laws.proofs.Carries.{carry_spent}

@@ -11,9 +11,9 @@ use Rattle.txn_record.specs.declared.op.Op.{Op}
 use Rattle.txn_record.specs.declared.record.Record.{Record}
 use Rattle.txn_record.specs.declared.state.State.TheVariants as state
 use Rattle.store_trait.specs.Contents.{Content}
-use Rattle.store_trait.specs.Meaning.{meaning, pending, pending_of, not_done, records, bodies}
+use Rattle.store_laws.specs.Meaning.{meaning, pending, pending_of, not_done, records, bodies}
 use Rattle.store_trait.specs.Names.{same_state}
-use Rattle.store_trait.specs.View.{View, look, record_at, epoch_at}
+use Rattle.store_laws.specs.View.{View, look, record_at, epoch_at}
 use Rattle.store_trait.specs.declared.cell.Cell.TheVariants as cell
 use Rattle.store_trait.specs.declared.name.Name.TheVariants as name
 use Rattle.store_laws.proofs.Bodies.{body_in, get-bodies}

@@ -10,9 +10,9 @@ use Rattle.store_trait.specs.Cells.{as_record}
 use Rattle.store_trait.specs.Contents.{Content}
 use Rattle.store_trait.specs.Edits.{Hit, puts, hit, hit_move, moved, put_under, edited}
 use Rattle.store_trait.specs.Names.{same_state}
-use Rattle.store_trait.specs.Soundness.{IsSound}
-use Rattle.store_trait.specs.Steps.{IsQuiet}
-use Rattle.store_trait.specs.View.{look, record_at}
+use Rattle.store_laws.specs.Soundness.{IsSound}
+use Rattle.store_laws.specs.Steps.{IsQuiet}
+use Rattle.store_laws.specs.View.{look, record_at}
 use Rattle.store_trait.specs.declared.cell.Cell.{Cell}
 use Rattle.store_trait.specs.declared.cell.Cell.TheVariants as cell
 use Rattle.store_trait.specs.declared.edit.Edit.{Edit}

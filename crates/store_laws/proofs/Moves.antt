@@ -6,13 +6,13 @@ use Rattle.std.proofs.lemmas.Option.{same_Some}
 use Rattle.txn_key.proofs.KeyOrder.{id_cmp_total}
 use Rattle.txn_key.specs.declared.id.TxnId.{TxnId}
 use Rattle.txn_key.specs.declared.key.Key.{Key}
-use Rattle.txn_record.specs.States.{is_decided_state, is_settled_state, is_chosen_state}
+use Rattle.txn_record.specs.States.{was_prepared_state, is_settled_state, was_decided_state}
 use Rattle.txn_record.specs.declared.record.Record.{Record}
 use Rattle.txn_record.specs.declared.state.State.TheVariants as state
 use Rattle.store_trait.specs.Names.{same_state}
-use Rattle.store_trait.specs.View.{View, decided, waits_for_documents, IsOn}
-use Rattle.store_trait.specs.Readiness.{token, In, IsReady, Sealed}
-use Rattle.store_trait.specs.Later.{IsLater}
+use Rattle.store_laws.specs.View.{View, was_prepared, is_queued_state, IsOn}
+use Rattle.store_laws.specs.Readiness.{token, In, IsReady, Sealed}
+use Rattle.store_laws.specs.Later.{IsLater}
 use Rattle.store_laws.proofs.Shapes.{PutsRecord, ChangesRecord, SameQueues}
 use Rattle.store_laws.proofs.States.{applying_is_chosen, applying_waits, waiting_is_unsettled}
 use Rattle.store_laws.proofs.Views.{present_decided, decided_if_chosen, chosen_if_settled, decided_at, settled_at, chosen_at, applying_at, valid_nonce_of}
@@ -42,15 +42,15 @@ absent_goes old new id absent = record {
   nonces = λ d. absurd (gone d);
 }
   where
-    gone : decided old id ≡ true → ⊥
+    gone : was_prepared old id ≡ true → ⊥
     gone d = let (rec, there, state) = present_decided old id d in cc (absent, there)
 
 preparing_at : (view : View) (id : TxnId) (rec : Record) → view.record_at id ≡ Some rec → rec.state ≡ state.Preparing → IsOrderlyAt view id
 preparing_at view id rec there prepares = record {
-  drawn = λ r here d. absurd (cc (ap is_decided_state (state_of r here), d));
-  queued = λ r nonce key here waits some on. absurd (cc (ap waits_for_documents (state_of r here), waits));
+  drawn = λ r here d. absurd (cc (ap was_prepared_state (state_of r here), d));
+  queued = λ r nonce key here waits some on. absurd (cc (ap is_queued_state (state_of r here), waits));
   ready = λ applies. absurd (cc (applying_at view id rec there, prepares, applies));
-  sealed = λ chose. absurd (cc (chosen_at view id rec there, ap is_chosen_state prepares, chose));
+  sealed = λ chose. absurd (cc (chosen_at view id rec there, ap was_decided_state prepares, chose));
 }
   where
     state_of : (r : Record) → view.record_at id ≡ Some r → r.state ≡ state.Preparing
@@ -71,17 +71,17 @@ insert_step {old = old} {new = new} id rec o change absent prepares = record { l
 -- what a move keeps of a record
 pub record Advances (was rec : Record) : Type 0 where
   pub ops : rec.ops ≡ was.ops
-  pub decides : is_decided_state rec.state ≡ true
-  pub chooses : is_chosen_state was.state ≡ true → is_chosen_state rec.state ≡ true
+  pub decides : was_prepared_state rec.state ≡ true
+  pub chooses : was_decided_state was.state ≡ true → was_decided_state rec.state ≡ true
   pub settles : is_settled_state was.state ≡ true → is_settled_state rec.state ≡ true
-  pub nonces : is_decided_state was.state ≡ true → rec.nonce ≡ was.nonce
+  pub nonces : was_prepared_state was.state ≡ true → rec.nonce ≡ was.nonce
 
 -- when a record may move so
 pub record MayMove (old : View) (id : TxnId) (was rec : Record) : Type 0 where
   pub drawn : is_some rec.nonce ≡ true
-  pub queued : (nonce : ℕ) (key : Key) → waits_for_documents rec.state ≡ true → rec.nonce ≡ Some nonce → IsOn key rec.ops → In (token id nonce) (old.queue_at key)
-  pub decided : is_chosen_state rec.state ≡ true → is_decided_state was.state ≡ true
-  pub sealed : is_chosen_state rec.state ≡ true → Sealed old id
+  pub queued : (nonce : ℕ) (key : Key) → is_queued_state rec.state ≡ true → rec.nonce ≡ Some nonce → IsOn key rec.ops → In (token id nonce) (old.queue_at key)
+  pub prepared : was_decided_state rec.state ≡ true → was_prepared_state was.state ≡ true
+  pub sealed : was_decided_state rec.state ≡ true → Sealed old id
   pub ready : same_state state.Applying rec.state ≡ true → IsReady old id
 
 advance_goes : {old new : View} (id : TxnId) (was rec : Record) → old.record_at id ≡ Some was → new.record_at id ≡ Some rec → Advances was rec → RecordGoes old new id
@@ -99,7 +99,7 @@ moved_at : {old new : View} (id : TxnId) (was rec : Record) → IsLater old new 
 moved_at {old = old} {new = new} id was rec later queues before after may = record {
   drawn = λ r here d. subst (λ (r : Record). is_some r.nonce ≡ true) (same r here) may.drawn;
   queued = λ r nonce key here waits some on. stays_in queues key (token id nonce) (
-      subst (λ (r : Record). waits_for_documents r.state ≡ true → r.nonce ≡ Some nonce → IsOn key r.ops → In (token id nonce) (old.queue_at key)) (same r here) (may.queued nonce key) waits some on);
+      subst (λ (r : Record). is_queued_state r.state ≡ true → r.nonce ≡ Some nonce → IsOn key r.ops → In (token id nonce) (old.queue_at key)) (same r here) (may.queued nonce key) waits some on);
   ready = λ applies.
       let state = sym (applying_at new id rec after) ∙ applies in
       carry_ready later id (was_decided (applying_is_chosen rec.state state)) (settled_at new id rec after ∙ waiting_is_unsettled rec.state (applying_waits rec.state state)) (may.ready state);
@@ -111,8 +111,8 @@ moved_at {old = old} {new = new} id was rec later queues before after may = reco
     same : (r : Record) → new.record_at id ≡ Some r → rec ≡ r
     same r here = same_Some rec r (sym after ∙ here)
 
-    was_decided : is_chosen_state rec.state ≡ true → decided old id ≡ true
-    was_decided chose = decided_at old id was before ∙ may.decided chose
+    was_decided : was_decided_state rec.state ≡ true → was_prepared old id ≡ true
+    was_decided chose = decided_at old id was before ∙ may.prepared chose
 
 pub move_step : {old new : View} (id : TxnId) (was rec : Record) → IsOrderly old → ChangesRecord old new id rec → old.record_at id ≡ Some was → Advances was rec → MayMove old id was rec → IsOrderlyStep old new
 move_step {old = old} {new = new} id was rec o change before move may = record { later = later; orderly = orderly }

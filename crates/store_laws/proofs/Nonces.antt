@@ -4,7 +4,7 @@ use Rattle.std.proofs.lemmas.Option.{same_Some}
 use Rattle.std.specs.Option.{option_and_then}
 use Rattle.std.specs.FinMap.{get, insert}
 use Rattle.txn_key.specs.declared.id.TxnId.{TxnId}
-use Rattle.txn_record.specs.States.{is_decided_state}
+use Rattle.txn_record.specs.States.{was_prepared_state}
 use Rattle.txn_record.specs.declared.record.Record.{Record}
 use Rattle.txn_record.specs.declared.state.State.{State}
 use Rattle.txn_record.specs.declared.state.State.TheVariants as state
@@ -27,11 +27,11 @@ use Rattle.store_laws.proofs.Numbers.{unnumbered_nonce}
 use Rattle.store_laws.proofs.Shapes.{ChangesRecord}
 use Rattle.store_laws.proofs.Views.{valid_nonce_of}
 use Rattle.store_trait.specs.Contents.{Content}
-use Rattle.store_trait.specs.Soundness.{IsSound, is_numbered_record}
-use Rattle.store_trait.specs.View.{look, record_at, counter, valid_nonce, nonce_if_decided}
+use Rattle.store_laws.specs.Soundness.{IsSound, is_numbered_record}
+use Rattle.store_laws.specs.View.{look, record_at, counter, valid_nonce, nonce_if_prepared}
 
-nonce_kept : (rec : Record) (nonce : ℕ) → nonce_if_decided rec ≡ Some nonce → rec.nonce ≡ Some nonce
-nonce_kept rec nonce = go (is_decided_state rec.state)
+nonce_kept : (rec : Record) (nonce : ℕ) → nonce_if_prepared rec ≡ Some nonce → rec.nonce ≡ Some nonce
+nonce_kept rec nonce = go (was_prepared_state rec.state)
   where
     go : (b : Bool) → cond b rec.nonce None ≡ Some nonce → rec.nonce ≡ Some nonce
     go true e = e
@@ -41,11 +41,11 @@ kept_below : (limit nonce : ℕ) (o : Option ℕ) → IfSome o (λ n. n < limit)
 kept_below limit nonce None h e = cc
 kept_below limit nonce (Some n) h e = subst (λ (m : ℕ). m < limit) (same_Some n nonce e) h
 
-below_at : (limit nonce : ℕ) (found : Option Record) → ((rec : Record) → found ≡ Some rec → IfSome rec.nonce (λ n. n < limit)) → option_and_then nonce_if_decided found ≡ Some nonce → nonce < limit
+below_at : (limit nonce : ℕ) (found : Option Record) → ((rec : Record) → found ≡ Some rec → IfSome rec.nonce (λ n. n < limit)) → option_and_then nonce_if_prepared found ≡ Some nonce → nonce < limit
 below_at limit nonce None below e = cc
 below_at limit nonce (Some rec) below e = kept_below limit nonce rec.nonce (below rec refl) (nonce_kept rec nonce e)
 
--- the nonce of a decided record was drawn
+-- the nonce of a prepared record was drawn
 pub nonce_below : (c : Content) (id : TxnId) (nonce : ℕ) → IsSound c → valid_nonce (look c) id ≡ Some nonce → nonce < counter c
 unfolding look valid_nonce
 nonce_below c id nonce s e = below_at (counter c) nonce (record_at c id) (s.record_nonces id) e
@@ -53,20 +53,20 @@ nonce_below c id nonce s e = below_at (counter c) nonce (record_at c id) (s.reco
 -- a preparing record has none
 pub preparing_none : (c : Content) (id : TxnId) (rec : Record) → record_at c id ≡ Some rec → rec.state ≡ state.Preparing → valid_nonce (look c) id ≡ None
 unfolding look valid_nonce
-preparing_none c id rec there prepares = ap (option_and_then nonce_if_decided) there ∙ ap (λ (b : Bool). cond b rec.nonce None) (ap is_decided_state prepares)
+preparing_none c id rec there prepares = ap (option_and_then nonce_if_prepared) there ∙ ap (λ (b : Bool). cond b rec.nonce None) (ap was_prepared_state prepares)
 
 -- records that stay have the nonces that they had
 pub nonces_same : (c d : Content) (id : TxnId) → record_at d id ≡ record_at c id → valid_nonce (look d) id ≡ valid_nonce (look c) id
 unfolding look valid_nonce
-nonces_same c d id same = ap (option_and_then nonce_if_decided) same
+nonces_same c d id same = ap (option_and_then nonce_if_prepared) same
 
 -- Where a nonce comes from that a record comes to have.
 
--- a record with a nonce is decided
-undecided_none : (rec : Record) → is_numbered_record rec ≡ true → (nonce : ℕ) → rec.nonce ≡ Some nonce → is_decided_state rec.state ≡ true
+-- a record with a nonce was prepared
+undecided_none : (rec : Record) → is_numbered_record rec ≡ true → (nonce : ℕ) → rec.nonce ≡ Some nonce → was_prepared_state rec.state ≡ true
 undecided_none rec numbered nonce e = go rec.state (λ now. unnumbered_nonce rec numbered now)
   where
-    go : (s : State) → (s ≡ state.Preparing → rec.nonce ≡ None) → is_decided_state s ≡ true
+    go : (s : State) → (s ≡ state.Preparing → rec.nonce ≡ None) → was_prepared_state s ≡ true
     go state.Preparing none = absurd (cc (none refl, e))
     go _ none = refl
 
@@ -79,7 +79,7 @@ moved_comes : (c : Content) (id : TxnId) (to : State) (drawn : Option ℕ) (revn
 unfolding look valid_nonce
 moved_comes c id to drawn revnos s was there = record {
   from = each_record change.puts (λ i. (nonce : ℕ) → valid_nonce (look d) i ≡ Some nonce → (valid_nonce (look c) i ≡ Some nonce) ⊎ (drawn ≡ Some nonce) × (i ≡ id))
-      (λ nonce e. here drawn nonce (nonce_kept rec nonce (sym (ap (option_and_then nonce_if_decided) (put_here id rec change.puts)) ∙ e)))
+      (λ nonce e. here drawn nonce (nonce_kept rec nonce (sym (ap (option_and_then nonce_if_prepared) (put_here id rec change.puts)) ∙ e)))
       (λ i same nonce e. inl (sym (nonces_same c d i same) ∙ e));
 }
   where
@@ -109,7 +109,7 @@ draw_nonces c e = record { same = λ id. nonces_same c (edited c name.Nonce e) i
 
 absent_none : (c : Content) (id : TxnId) → record_at c id ≡ None → valid_nonce (look c) id ≡ None
 unfolding look valid_nonce
-absent_none c id absent = ap (option_and_then nonce_if_decided) absent
+absent_none c id absent = ap (option_and_then nonce_if_prepared) absent
 
 inserted_nonces : (c : Content) (id : TxnId) (rec : Record) → rec.state ≡ state.Preparing → (found : Option Cell) → get c (name.Record id) ≡ found → NoncesStay (look c) (look (put_under c (name.Record id) (hit_insert_record rec (name.Record id) found)))
 unfolding look record_at

@@ -6,7 +6,7 @@ use Rattle.txn_record.specs.declared.state.State.{State}
 use Rattle.txn_record.specs.declared.state.State.TheVariants as state
 use Rattle.store_trait.specs.Edits.{moved}
 use Rattle.store_trait.specs.Names.{same_state}
-use Rattle.store_trait.specs.Soundness.{is_numbered_record, agree, has_revnos}
+use Rattle.store_laws.specs.Soundness.{is_numbered_record, agree, has_revnos}
 
 -- the chain of a record, where it has one
 abbrev chain_fits : Record → Bool

@@ -11,11 +11,11 @@ use Rattle.txn_record.specs.declared.op.Op.{Op}
 use Rattle.txn_record.specs.declared.record.Record.{Record}
 use Rattle.txn_record.specs.declared.state.State.TheVariants as state
 use Rattle.store_trait.specs.Contents.{Content}
-use Rattle.store_trait.specs.Meaning.{meaning}
+use Rattle.store_laws.specs.Meaning.{meaning}
 use Rattle.store_trait.specs.Owners.{owner_of}
-use Rattle.store_trait.specs.Readiness.{IsReady}
-use Rattle.store_trait.specs.Soundness.{IsSound}
-use Rattle.store_trait.specs.View.{Number, look, record_at, doc_at, stash_at, IsOn, held_number, owner_held, by_side, doc_held, stash_held}
+use Rattle.store_laws.specs.Readiness.{IsReady}
+use Rattle.store_laws.specs.Soundness.{IsSound}
+use Rattle.store_laws.specs.View.{Number, look, record_at, doc_at, stash_at, IsOn, held_number, owner_held, by_side, doc_held, stash_held}
 use Rattle.store_trait.specs.declared.cell.Cell.TheVariants as cell
 use Rattle.store_trait.specs.declared.cell.DocCell.{DocCell}
 use Rattle.store_trait.specs.declared.cell.StashCell.{StashCell}

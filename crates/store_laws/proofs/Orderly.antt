@@ -6,7 +6,7 @@ use Rattle.std.proofs.lemmas.Option.{same_Some}
 use Rattle.txn_key.specs.declared.id.TxnId.{TxnId}
 use Rattle.txn_key.specs.declared.id.Token.{Token}
 use Rattle.txn_key.specs.declared.key.Key.{Key}
-use Rattle.txn_record.specs.States.{is_decided_state}
+use Rattle.txn_record.specs.States.{was_prepared_state}
 use Rattle.txn_record.specs.declared.record.Record.{Record}
 use Rattle.txn_record.specs.declared.state.State.{State}
 use Rattle.txn_record.specs.declared.state.State.TheVariants as state
@@ -14,9 +14,9 @@ use Rattle.store_trait.specs.Names.{same_state}
 use Rattle.store_trait.specs.Contents.{Content}
 use Rattle.store_trait.specs.Cells.{as_record}
 use Rattle.store_trait.specs.Owners.{owner_of}
-use Rattle.store_trait.specs.View.{View, look, record_at, doc_at, stash_at, chosen, applying, waits_for_documents, HasKey, IsOn, by_side, doc_queue, stash_queue}
-use Rattle.store_trait.specs.Readiness.{token, In, IsReady, Sealed}
-use Rattle.store_trait.specs.Soundness.{IsSound, HasSoundTokens, is_numbered_record, agree, tokens_of_doc, tokens_of_stash}
+use Rattle.store_laws.specs.View.{View, look, record_at, doc_at, stash_at, was_decided, applying, is_queued_state, HasKey, IsOn, by_side, doc_queue, stash_queue}
+use Rattle.store_laws.specs.Readiness.{token, In, IsReady, Sealed}
+use Rattle.store_laws.specs.Soundness.{IsSound, HasSoundTokens, is_numbered_record, agree, tokens_of_doc, tokens_of_stash}
 use Rattle.store_trait.specs.declared.cell.Cell.{Cell}
 use Rattle.store_trait.specs.declared.cell.Cell.TheVariants as cell
 use Rattle.store_trait.specs.declared.cell.DocCell.{DocCell}
@@ -29,12 +29,12 @@ use Rattle.store_laws.proofs.Queues.{in_left}
 pub record IsOrderly (view : View) : Type 0 where
   -- a token in an owner queue is of a present record that has the key
   pub named : (key : Key) (x : Token) → In x (view.queue_at key) → HasKey view x.id key
-  -- a decided record has a nonce
-  pub drawn : (id : TxnId) (rec : Record) → view.record_at id ≡ Some rec → is_decided_state rec.state ≡ true → is_some rec.nonce ≡ true
+  -- a prepared record has a nonce
+  pub drawn : (id : TxnId) (rec : Record) → view.record_at id ≡ Some rec → was_prepared_state rec.state ≡ true → is_some rec.nonce ≡ true
   -- a waiting record's token stands in the owner queue of each of its keys
-  pub queued : (id : TxnId) (rec : Record) (nonce : ℕ) (key : Key) → view.record_at id ≡ Some rec → IsTrue (waits_for_documents rec.state) → rec.nonce ≡ Some nonce → IsOn key rec.ops → In (token id nonce) (view.queue_at key)
+  pub queued : (id : TxnId) (rec : Record) (nonce : ℕ) (key : Key) → view.record_at id ≡ Some rec → IsTrue (is_queued_state rec.state) → rec.nonce ≡ Some nonce → IsOn key rec.ops → In (token id nonce) (view.queue_at key)
   pub ready : (id : TxnId) → applying view id ≡ true → IsReady view id
-  pub sealed : (id : TxnId) → chosen view id ≡ true → Sealed view id
+  pub sealed : (id : TxnId) → was_decided view id ≡ true → Sealed view id
 
 -- tokens of an owner queue are tokens of one of the key's two cells
 
@@ -64,7 +64,7 @@ pub record_under : (c : Content) (id : TxnId) (rec : Record) → record_at c id 
 unfolding record_at
 record_under c id rec there = found_record (get c (name.Record id)) rec there
 
-agreed : (b : Bool) (s : State) → agree b (not (same_state s state.Preparing)) ≡ true → is_decided_state s ≡ true → b ≡ true
+agreed : (b : Bool) (s : State) → agree b (not (same_state s state.Preparing)) ≡ true → was_prepared_state s ≡ true → b ≡ true
 agreed true s e d = refl
 agreed false state.Preparing e d = d
 agreed false _ e d = e
@@ -76,7 +76,7 @@ first_of_three false b c e = cc
 pub nonce_agrees : (rec : Record) → is_numbered_record rec ≡ true → agree (is_some rec.nonce) (not (same_state rec.state state.Preparing)) ≡ true
 nonce_agrees rec e = first_of_three _ _ _ e
 
-pub numbered_nonce : (rec : Record) → is_numbered_record rec ≡ true → is_decided_state rec.state ≡ true → is_some rec.nonce ≡ true
+pub numbered_nonce : (rec : Record) → is_numbered_record rec ≡ true → was_prepared_state rec.state ≡ true → is_some rec.nonce ≡ true
 numbered_nonce rec e d = agreed (is_some rec.nonce) rec.state (nonce_agrees rec e) d
 
 pub orderly : (c : Content) → IsSound c → IsOrderly (look c)

@@ -10,9 +10,9 @@ use Rattle.txn_record.specs.declared.record.Record.{Record}
 use Rattle.store_trait.specs.Cells.{as_record}
 use Rattle.store_trait.specs.Contents.{Content}
 use Rattle.store_trait.specs.Owners.{owner_of}
-use Rattle.store_trait.specs.Soundness.{IsSound}
-use Rattle.store_trait.specs.Steps.{IsQuiet}
-use Rattle.store_trait.specs.View.{Number, look, doc_at, stash_at, owner_queue, owner_held, by_side, doc_held, stash_held, stash_queue, held_number}
+use Rattle.store_laws.specs.Soundness.{IsSound}
+use Rattle.store_laws.specs.Steps.{IsQuiet}
+use Rattle.store_laws.specs.View.{Number, look, doc_at, stash_at, owner_queue, owner_held, by_side, doc_held, stash_held, stash_queue, held_number}
 use Rattle.store_trait.specs.declared.cell.DocCell.{DocCell}
 use Rattle.store_trait.specs.declared.cell.StashCell.{StashCell}
 use Rattle.store_trait.specs.declared.side.Side.{Side}

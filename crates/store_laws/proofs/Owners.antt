@@ -2,8 +2,8 @@
 use Rattle.std.proofs.Common.{◌≡◌, Option, Some, None, [], ap, ap₂, sym, ◌∙◌, refl, unsigned_abs}
 use Rattle.txn_key.specs.declared.key.Key.{Key}
 use Rattle.store_trait.specs.Contents.{Content}
-use Rattle.store_trait.specs.View.{Body, look, doc_at, stash_at, owner_queue, owner_held, held_number, epoch_at}
-use Rattle.store_trait.specs.Done.{progress, progress_of}
+use Rattle.store_laws.specs.View.{Body, look, doc_at, stash_at, owner_queue, owner_held, held_number, epoch_at}
+use Rattle.store_laws.specs.Done.{progress, progress_of}
 use Rattle.store_trait.specs.declared.cell.DocCell.{DocCell}
 use Rattle.store_trait.specs.declared.cell.StashCell.{StashCell}
 

@@ -10,8 +10,8 @@ use Rattle.txn_record.specs.Revnos.{is_present, is_within}
 use Rattle.store_trait.specs.Cells.{as_doc, as_stash}
 use Rattle.store_trait.specs.Contents.{Content}
 use Rattle.store_trait.specs.Owners.{owner_of, epoch}
-use Rattle.store_trait.specs.Soundness.{IsSound}
-use Rattle.store_trait.specs.View.{Body, Number, look, doc_at, stash_at, owner_held, owner_queue, by_side, doc_held, doc_queue, stash_held, stash_queue, held_number}
+use Rattle.store_laws.specs.Soundness.{IsSound}
+use Rattle.store_laws.specs.View.{Body, Number, look, doc_at, stash_at, owner_held, owner_queue, by_side, doc_held, doc_queue, stash_held, stash_queue, held_number}
 use Rattle.store_trait.specs.declared.cell.Cell.{Cell}
 use Rattle.store_trait.specs.declared.cell.Cell.TheVariants as cell
 use Rattle.store_trait.specs.declared.cell.DocCell.{DocCell}

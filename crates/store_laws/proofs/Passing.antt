@@ -14,12 +14,12 @@ use Rattle.txn_record.specs.declared.record.Record.{Record}
 use Rattle.txn_record.specs.declared.state.State.{State}
 use Rattle.txn_record.specs.declared.state.State.TheVariants as state
 use Rattle.store_trait.specs.Contents.{Content}
-use Rattle.store_trait.specs.Done.{progress, progress_of, HasPassed, AllPassed}
+use Rattle.store_laws.specs.Done.{progress, progress_of, HasPassed, AllPassed}
 use Rattle.store_trait.specs.Edits.{edited}
-use Rattle.store_trait.specs.Later.{may_follow}
-use Rattle.store_trait.specs.Soundness.{IsSound}
-use Rattle.store_trait.specs.Steps.{IsStep}
-use Rattle.store_trait.specs.View.{look, record_at, doc_at, stash_at}
+use Rattle.store_laws.specs.Later.{may_follow}
+use Rattle.store_laws.specs.Soundness.{IsSound}
+use Rattle.store_laws.specs.Steps.{IsStep}
+use Rattle.store_laws.specs.View.{look, record_at, doc_at, stash_at}
 use Rattle.store_trait.specs.declared.cell.Cell.TheVariants as cell
 use Rattle.store_trait.specs.declared.cell.DocCell.{DocCell}
 use Rattle.store_trait.specs.declared.edit.Edit.TheVariants as edit

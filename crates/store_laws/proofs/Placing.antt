@@ -16,11 +16,11 @@ use Rattle.txn_record.specs.declared.state.State.TheVariants as state
 use Rattle.store_trait.specs.Cells.{as_record, as_doc}
 use Rattle.store_trait.specs.Contents.{Content}
 use Rattle.store_trait.specs.Edits.{hit, hit_place, put_under, edited}
-use Rattle.store_trait.specs.Meaning.{records, meaning, bodies, pending, pending_of}
+use Rattle.store_laws.specs.Meaning.{records, meaning, bodies, pending, pending_of}
 use Rattle.store_trait.specs.Names.{same_state}
-use Rattle.store_trait.specs.Readiness.{In}
-use Rattle.store_trait.specs.Soundness.{IsSound, StandsOnChain, PendingFits}
-use Rattle.store_trait.specs.View.{View, Held, Body, look, record_at, doc_at, stash_at, owner_queue, owner_held, held_number, IsOn}
+use Rattle.store_laws.specs.Readiness.{In}
+use Rattle.store_laws.specs.Soundness.{IsSound, StandsOnChain, PendingFits}
+use Rattle.store_laws.specs.View.{View, Held, Body, look, record_at, doc_at, stash_at, owner_queue, owner_held, held_number, IsOn}
 use Rattle.store_trait.specs.declared.cell.Cell.{Cell}
 use Rattle.store_trait.specs.declared.cell.Cell.TheVariants as cell
 use Rattle.store_trait.specs.declared.edit.Edit.TheVariants as edit
@@ -32,7 +32,7 @@ use Rattle.store_laws.proofs.CellRules.{HasSoundCells, sound_cells, cells_put_do
 use Rattle.store_laws.proofs.Changes.{IsOrderlyStep}
 use Rattle.store_laws.proofs.Decided.{decided_by-same}
 use Rattle.store_laws.proofs.Effects.{meaning-free}
-use Rattle.store_laws.proofs.Exclusive.{is_queued}
+use Rattle.store_laws.proofs.Exclusive.{stands_queued}
 use Rattle.store_laws.proofs.Fitting.{changes_fit-agree}
 use Rattle.store_laws.proofs.Idle.{NoneApplies, pending-at, pending_of-keys, on_pending}
 use Rattle.store_laws.proofs.Equals.{by_key}
@@ -47,7 +47,7 @@ use Rattle.store_laws.proofs.Writes.{place_step}
 
 -- nobody applies on a key where no token waits
 none_waits : {view : View} → IsOrderly view → (key : Key) → view.queue_at key ≡ [] → NoneApplies view key
-none_waits {view = view} o key empty id applies has = subst (In _) empty (is_queued view o id key has (waiting_if_applying view id applies)).inside
+none_waits {view = view} o key empty id applies has = subst (In _) empty (stands_queued view o id key has (waiting_if_applying view id applies)).inside
 
 -- an applying record whose keys hold the same
 

@@ -9,7 +9,7 @@ use Rattle.txn_key.specs.declared.key.Key.{Key}
 use Rattle.store_trait.specs.Cells.{as_doc}
 use Rattle.store_trait.specs.Contents.{Content}
 use Rattle.store_trait.specs.Edits.{hit_add_token, hit_place, puts, unmarked, with_token, put_under, edited}
-use Rattle.store_trait.specs.View.{doc_at}
+use Rattle.store_laws.specs.View.{doc_at}
 use Rattle.store_trait.specs.declared.cell.Cell.{Cell}
 use Rattle.store_trait.specs.declared.cell.Cell.TheVariants as cell
 use Rattle.store_trait.specs.declared.cell.DocCell.{DocCell}

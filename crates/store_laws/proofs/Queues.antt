@@ -3,7 +3,7 @@ use Rattle.std.proofs.Common.{◌≡◌, ◌≢◌, Bool, true, false, ◌&&◌,
 use Rattle.std.proofs.lemmas.Bool.{eq-eqb, eqb-true, and_parts}
 use Rattle.std.proofs.lemmas.Slice.Eq.{bytes_eq-Decides}
 use Rattle.txn_key.specs.declared.id.Token.{Token}
-use Rattle.store_trait.specs.Readiness.{In, Before}
+use Rattle.store_laws.specs.Readiness.{In, Before}
 use Rattle.store_trait.specs.Edits.{same_token, has_token, with_token}
 
 pub in_more : (x z : Token) (queue : List Token) → In x queue → In x (queue ++ z ∷ [])

@@ -6,21 +6,21 @@ use Rattle.std.specs.FinMap.{get, insert}
 use Rattle.std.specs.List.{flat_map}
 use Rattle.txn_key.specs.declared.id.TxnId.{TxnId}
 use Rattle.txn_key.specs.declared.key.Key.{Key}
-use Rattle.txn_record.specs.States.{is_chosen_state}
+use Rattle.txn_record.specs.States.{was_decided_state}
 use Rattle.txn_record.specs.declared.record.Record.{Record}
 use Rattle.txn_record.specs.declared.state.State.{State}
 use Rattle.txn_record.specs.declared.state.State.TheVariants as state
 use Rattle.store_trait.specs.Cells.{as_record}
 use Rattle.store_trait.specs.Contents.{Content}
-use Rattle.store_trait.specs.Decisions.{entry_at}
+use Rattle.store_laws.specs.Decisions.{entry_at}
 use Rattle.store_trait.specs.Edits.{puts, hit_insert_record, moved, put_under, edited}
-use Rattle.store_trait.specs.Meaning.{pending_of, not_done}
+use Rattle.store_laws.specs.Meaning.{pending_of, not_done}
 use Rattle.store_trait.specs.Names.{same_state, same_id}
-use Rattle.store_trait.specs.Soundness.{IsSound, is_numbered_record, agree, has_revnos}
-use Rattle.store_trait.specs.Done.{StaysDone}
-use Rattle.store_trait.specs.Steps.{IsStep, IsQuiet}
-use Rattle.store_trait.specs.View.{look, record_at, counter, IsOn, chosen}
-use Rattle.store_trait.specs.Readiness.{token, In}
+use Rattle.store_laws.specs.Soundness.{IsSound, is_numbered_record, agree, has_revnos}
+use Rattle.store_laws.specs.Done.{StaysDone}
+use Rattle.store_laws.specs.Steps.{IsStep, IsQuiet}
+use Rattle.store_laws.specs.View.{look, record_at, counter, IsOn, was_decided}
+use Rattle.store_laws.specs.Readiness.{token, In}
 use Rattle.store_trait.specs.declared.cell.Cell.{Cell}
 use Rattle.store_trait.specs.declared.cell.Cell.TheVariants as cell
 use Rattle.store_trait.specs.declared.edit.Edit.TheVariants as edit
@@ -29,7 +29,7 @@ use Rattle.store_laws.proofs.Changes.{IsOrderlyStep}
 use Rattle.store_laws.proofs.Decided.{decided_by-put, newly_chosen}
 use Rattle.store_laws.proofs.KindsOfMove.{prepare_step, end_step}
 use Rattle.store_laws.proofs.Looks.{record_looks}
-use Rattle.store_trait.specs.Later.{may_follow}
+use Rattle.store_laws.specs.Later.{may_follow}
 use Rattle.store_laws.proofs.Lost.{lost_inserted, lost_moved, goes_plainly, goes_prepared}
 use Rattle.store_laws.proofs.Meanings.{meaning-put}
 use Rattle.store_laws.proofs.Numbers.{numbered_prepared, numbered_as}
@@ -45,12 +45,12 @@ use Rattle.store_laws.proofs.Views.{chosen_at}
 pub idle : (c : Content) (rec : Record) → same_state state.Applying rec.state ≡ false → pending_of (look c) rec ≡ []
 idle c rec e = ap (λ (b : Bool). cond b (not_done (look c) rec.ops (unwrap_or rec.revnos [])) []) e
 
--- a record whose state chooses nothing is no decision, nor is one that was chosen
-pub unchosen : (c : Content) (at : ℕ) (rec : Record) → is_chosen_state rec.state ≡ false → newly_chosen c at rec ≡ None
-unchosen c at rec e = ap (λ (b : Bool). cond (b && not (chosen (look c) rec.id)) (Some (entry_at at rec)) None) e
+-- a record whose state decides nothing is no decision, nor is one that was decided
+pub unchosen : (c : Content) (at : ℕ) (rec : Record) → was_decided_state rec.state ≡ false → newly_chosen c at rec ≡ None
+unchosen c at rec e = ap (λ (b : Bool). cond (b && not (was_decided (look c) rec.id)) (Some (entry_at at rec)) None) e
 
-pub chosen_already : (c : Content) (at : ℕ) (rec : Record) → chosen (look c) rec.id ≡ true → newly_chosen c at rec ≡ None
-chosen_already c at rec e = ap (λ (b : Bool). cond (is_chosen_state rec.state && not b) (Some (entry_at at rec)) None) e ∙ never (is_chosen_state rec.state)
+pub chosen_already : (c : Content) (at : ℕ) (rec : Record) → was_decided (look c) rec.id ≡ true → newly_chosen c at rec ≡ None
+chosen_already c at rec e = ap (λ (b : Bool). cond (was_decided_state rec.state && not b) (Some (entry_at at rec)) None) e ∙ never (was_decided_state rec.state)
   where
     never : (b : Bool) → cond (b && not true) (Some (entry_at at rec)) None ≡ None
     never true = refl
@@ -89,7 +89,7 @@ unfolding record_at look
 inserted c id rec s prepares numbered absent same =
     put_quiet c id rec s (record { sound = sound_put_record c id rec s step same numbered nonce (λ applies. absurd (cc (prepares, applies))); later = step.later; lost = lost_inserted id rec (record_looks c id rec) gone; done = done_put c id rec (λ was revnos there applies. absurd (cc (gone, there))) })
     (idle c rec (ap (same_state state.Applying) prepares) ∙ sym (ap (λ (o : Option Record). flat_map (pending_of (look c)) (option_to_list o)) gone))
-    (λ at. unchosen c at rec (ap is_chosen_state prepares))
+    (λ at. unchosen c at rec (ap was_decided_state prepares))
   where
     gone : record_at c id ≡ None
     gone = ap (option_and_then as_record) absent
@@ -141,7 +141,7 @@ pub prepare_quiet : (c : Content) (id : TxnId) (number : ℕ) → IsSound c → 
     → IsQuiet c (edited c (name.Record id) (edit.Move state.Preparing state.Prepared (Some number) None))
 prepare_quiet c id number s below queued = by_move c id state.Preparing state.Prepared (Some number) None (IsQuiet c) (quiet_itself c s) (prepared c id number s below queued) (get c (name.Record id)) refl
 
--- a chosen record moves on without a new nonce
+-- a decided record moves on without a new nonce
 pub settled_step : (c : Content) (id : TxnId) (from to : State) (was : Record) → IsSound c → record_at c id ≡ Some was → was.state ≡ from → same_state from state.Preparing ≡ same_state to state.Preparing → has_revnos from ≡ has_revnos to
     → same_state state.Applying to ≡ false → may_follow from to ≡ true → let d = insert c (name.Record id) (cell.Record (moved to None None was)) in IsOrderlyStep (look c) (look d) → StaysDone c d → IsStep c d
 unfolding look
@@ -155,11 +155,11 @@ settled_step c id from to was s there state nonces chains stops follows step don
     rec : Record
     rec = moved to None None was
 
--- a record that was chosen is no decision
-pub settled_already : (c : Content) (id : TxnId) (was rec : Record) → IsSound c → record_at c id ≡ Some was → rec.id ≡ was.id → is_chosen_state was.state ≡ true → (at : ℕ) → newly_chosen c at rec ≡ None
+-- a record that was decided is no decision
+pub settled_already : (c : Content) (id : TxnId) (was rec : Record) → IsSound c → record_at c id ≡ Some was → rec.id ≡ was.id → was_decided_state was.state ≡ true → (at : ℕ) → newly_chosen c at rec ≡ None
 unfolding look
 settled_already c id was rec s there same chose at =
-    chosen_already c at rec (ap (chosen (look c)) (same ∙ sym (own_id c id was s there)) ∙ chosen_at (look c) id was there ∙ chose)
+    chosen_already c at rec (ap (was_decided (look c)) (same ∙ sym (own_id c id was s there)) ∙ chosen_at (look c) id was there ∙ chose)
 
 ended : (c : Content) (id : TxnId) → IsSound c → (was : Record) → record_at c id ≡ Some was → was.state ≡ state.Aborting → IsQuiet c (insert c (name.Record id) (cell.Record (moved state.Aborted None None was)))
 unfolding look
@@ -167,7 +167,7 @@ ended c id s was there from =
     put_quiet c id rec s
     (settled_step c id state.Aborting state.Aborted was s there from refl refl refl refl (end_step id was (orderly c s) (record_looks c id rec) there from) (done_put c id rec (λ w revnos t applies numbers applied. absurd (cc applied))))
     (in_place c id was rec there (idle c rec refl ∙ sym (idle c was (ap (same_state state.Applying) from))))
-    (settled_already c id was rec s there refl (ap is_chosen_state from))
+    (settled_already c id was rec s there refl (ap was_decided_state from))
   where
     rec : Record
     rec = moved state.Aborted None None was

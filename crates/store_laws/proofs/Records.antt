@@ -10,9 +10,9 @@ use Rattle.txn_record.specs.declared.record.Record.{Record}
 use Rattle.store_trait.proofs.NameOrder.{name_cmp_total, name_cmp-IsAntisymmetric}
 use Rattle.store_trait.specs.Cells.{as_record}
 use Rattle.store_trait.specs.Contents.{Content}
-use Rattle.store_trait.specs.Meaning.{records}
+use Rattle.store_laws.specs.Meaning.{records}
 use Rattle.store_trait.specs.Names.{may_stand, same_id}
-use Rattle.store_trait.specs.View.{record_at}
+use Rattle.store_laws.specs.View.{record_at}
 use Rattle.store_trait.specs.declared.cell.Cell.{Cell}
 use Rattle.store_trait.specs.declared.cell.Cell.TheVariants as cell
 use Rattle.store_trait.specs.declared.name.Name.{Name}

@@ -5,10 +5,10 @@ use Rattle.std.specs.FinMap.{get}
 use Rattle.txn_key.specs.Documents.{Docs}
 use Rattle.txn_key.specs.declared.key.Key.{Key}
 use Rattle.store_trait.specs.Contents.{Content}
-use Rattle.store_trait.specs.Meaning.{meaning, bodies, pending, records}
-use Rattle.store_trait.specs.Readiness.{token}
-use Rattle.store_trait.specs.Soundness.{IsSound}
-use Rattle.store_trait.specs.View.{look, doc_at, owner_held}
+use Rattle.store_laws.specs.Meaning.{meaning, bodies, pending, records}
+use Rattle.store_laws.specs.Readiness.{token}
+use Rattle.store_laws.specs.Soundness.{IsSound}
+use Rattle.store_laws.specs.View.{look, doc_at, owner_held}
 use Rattle.store_trait.specs.declared.cell.DocCell.{DocCell}
 use Rattle.store_trait.specs.declared.cell.StashCell.{StashCell}
 use Rattle.store_laws.specs.Alone.{IsAtRest}

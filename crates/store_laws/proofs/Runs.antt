@@ -12,7 +12,7 @@ use Rattle.txn_key.specs.declared.key.Key.{Key}
 use Rattle.txn_record.proofs.EffectLaws.{get-effect_of_here, get-effect_of_other}
 use Rattle.txn_record.specs.Effects.{effect, effect_of, body_after}
 use Rattle.txn_record.specs.declared.op.Op.{Op}
-use Rattle.store_trait.specs.View.{IsOn}
+use Rattle.store_laws.specs.View.{IsOn}
 
 pub same_key-equal : (j k : Key) → same_key j k ≡ true → j ≡ k
 same_key-equal j k e = key_cmp-IsAntisymmetric j k ((Equal-is (key_cmp j k)).0 e)

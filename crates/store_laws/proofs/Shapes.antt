@@ -8,7 +8,7 @@ use Rattle.txn_key.specs.declared.id.Token.{Token}
 use Rattle.txn_key.specs.declared.key.Key.{Key}
 use Rattle.txn_record.specs.declared.record.Record.{Record}
 use Rattle.store_trait.specs.Edits.{with_token}
-use Rattle.store_trait.specs.View.{View}
+use Rattle.store_laws.specs.View.{View}
 
 -- Parts of a change. The counter stands in each whole shape below.
 

@@ -9,8 +9,8 @@ use Rattle.txn_record.specs.declared.record.Record.{Record}
 use Rattle.txn_record.specs.declared.state.State.TheVariants as state
 use Rattle.store_trait.specs.Names.{same_state, may_stand}
 use Rattle.store_trait.specs.Contents.{Content}
-use Rattle.store_trait.specs.View.{View, Held, look, record_at, counter, held_number}
-use Rattle.store_trait.specs.Soundness.{IsSound, StandsOnChain, PendingFits, is_numbered}
+use Rattle.store_laws.specs.View.{View, Held, look, record_at, counter, held_number}
+use Rattle.store_laws.specs.Soundness.{IsSound, StandsOnChain, PendingFits, is_numbered}
 use Rattle.store_trait.specs.declared.cell.Cell.TheVariants as cell
 use Rattle.store_trait.specs.declared.name.Name.TheVariants as name
 use Rattle.store_laws.proofs.Shapes.{SameHeld, ChangesRecord}

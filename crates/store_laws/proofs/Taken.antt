@@ -9,8 +9,8 @@ use Rattle.txn_key.specs.declared.key.Key.{Key}
 use Rattle.txn_record.specs.Revnos.{follows, is_present, has_effect, number_after}
 use Rattle.txn_record.specs.declared.op.Change.{Change}
 use Rattle.txn_record.specs.declared.op.Op.{Op}
-use Rattle.store_trait.specs.Meaning.{not_done}
-use Rattle.store_trait.specs.View.{View, Held, held_number, epoch_at}
+use Rattle.store_laws.specs.Meaning.{not_done}
+use Rattle.store_laws.specs.View.{View, Held, held_number, epoch_at}
 use Rattle.store_laws.proofs.ChainOrder.{IsFrom, from_on}
 use Rattle.store_laws.proofs.Inherits.{First, head_has, tail_here, tail_has, at_has}
 use Rattle.store_laws.proofs.NumberAfter.{after_above, after_effect, idle_body, idle_fits}

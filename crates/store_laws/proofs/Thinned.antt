@@ -9,7 +9,7 @@ use Rattle.txn_record.proofs.EffectLaws.{get-effect_of_other}
 use Rattle.txn_record.specs.Effects.{body_after, change_fits, changes_fit, effect_of}
 use Rattle.txn_record.specs.declared.op.Change.{Change}
 use Rattle.txn_record.specs.declared.op.Op.{Op}
-use Rattle.store_trait.specs.View.{IsOn}
+use Rattle.store_laws.specs.View.{IsOn}
 use Rattle.store_laws.proofs.Equals.{by_key}
 use Rattle.store_laws.proofs.Fitting.{changes_fit-agree, at_one}
 use Rattle.store_laws.proofs.Runs.{run_on, same_key-apart}

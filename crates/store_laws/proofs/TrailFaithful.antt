@@ -8,12 +8,12 @@ use Rattle.txn_record.specs.declared.entry.Entry.{Entry}
 use Rattle.txn_record.specs.declared.entry.Outcome.{Outcome}
 use Rattle.txn_record.specs.declared.record.Record.{Record}
 use Rattle.store_trait.specs.Contents.{Content}
-use Rattle.store_trait.specs.Decisions.{decided_by, decisions, outcome_of}
-use Rattle.store_trait.specs.History.{SameTransaction, IsFaithful}
-use Rattle.store_trait.specs.Meaning.{meaning}
-use Rattle.store_trait.specs.Soundness.{IsSound}
-use Rattle.store_trait.specs.Steps.{IsStep}
-use Rattle.store_trait.specs.View.{look, record_at}
+use Rattle.store_laws.specs.Decisions.{decided_by, decisions, outcome_of}
+use Rattle.store_laws.specs.History.{SameTransaction, IsFaithful}
+use Rattle.store_laws.specs.Meaning.{meaning}
+use Rattle.store_laws.specs.Soundness.{IsSound}
+use Rattle.store_laws.specs.Steps.{IsStep}
+use Rattle.store_laws.specs.View.{look, record_at}
 use Rattle.store_laws.proofs.Chained.{step_then}
 use Rattle.store_laws.proofs.Misses.{quiet_itself}
 use Rattle.store_laws.proofs.TrailGrows.{step_of}
@@ -27,60 +27,60 @@ after-append base (entry ∷ xs) ys = after-append (outcome_effect entry.outcome
 pub means_after : {old new : Content} (at : ℕ) → IsCall old new → meaning new ≡ after (meaning old) (decided_by old new at)
 means_after {old = old} at (Quiet q) = q.means ∙ sym (ap (after (meaning old)) (q.none at))
 means_after {old = old} at (Applying rec a) =
-    a.means ∙ sym (ap (after (meaning old)) (a.one at) ∙ ap (λ (o : Outcome). outcome_effect o rec.ops (meaning old)) (ap outcome_of a.chosen.state))
+    a.means ∙ sym (ap (after (meaning old)) (a.one at) ∙ ap (λ (o : Outcome). outcome_effect o rec.ops (meaning old)) (ap outcome_of a.decides.state))
 means_after {old = old} at (Aborting rec a) =
-    a.means ∙ sym (ap (after (meaning old)) (a.one at) ∙ ap (λ (o : Outcome). outcome_effect o rec.ops (meaning old)) (ap outcome_of a.chosen.state))
+    a.means ∙ sym (ap (after (meaning old)) (a.one at) ∙ ap (λ (o : Outcome). outcome_effect o rec.ops (meaning old)) (ap outcome_of a.decides.state))
 
-module _ (place : ℕ → Content) (mark n : ℕ) (base : Docs) (order : List Entry) (t : IsTrail place mark n base order) where
-  pub sound_at : (k : ℕ) → k ≤ n → IsSound (place (mark + k))
-  sound_at zero le = subst (λ (m : ℕ). IsSound (place m)) (first mark) t.opens
+module _ (trail : ℕ → Content) (mark n : ℕ) (base : Docs) (order : List Entry) (t : IsTrail trail mark n base order) where
+  pub sound_at : (k : ℕ) → k ≤ n → IsSound (trail (mark + k))
+  sound_at zero le = subst (λ (m : ℕ). IsSound (trail m)) (first mark) t.opens
     where
       first : (m : ℕ) → m ≡ m + 0
       first m = omega arith
-  sound_at (suc k) le = subst (λ (m : ℕ). IsSound (place m)) (next mark k) (step_of (t.calls k (omega arith))).sound
+  sound_at (suc k) le = subst (λ (m : ℕ). IsSound (trail m)) (next mark k) (step_of (t.calls k (omega arith))).sound
     where
       next : (m k : ℕ) → m + k + 1 ≡ m + suc k
       next m k = omega arith
 
-  pub means_at : (k : ℕ) → k ≤ n → meaning (place (mark + k)) ≡ after base (decisions place mark k)
-  means_at zero le = ap (λ (m : ℕ). meaning (place m)) (first mark) ∙ t.base_is
+  pub means_at : (k : ℕ) → k ≤ n → meaning (trail (mark + k)) ≡ after base (decisions trail mark k)
+  means_at zero le = ap (λ (m : ℕ). meaning (trail m)) (first mark) ∙ t.base_is
     where
       first : (m : ℕ) → m + 0 ≡ m
       first m = omega arith
   means_at (suc k) le =
-      ap (λ (m : ℕ). meaning (place m)) (next mark k)
+      ap (λ (m : ℕ). meaning (trail m)) (next mark k)
       ∙ means_after (mark + k + 1) (t.calls k (omega arith))
-      ∙ ap (λ (docs : Docs). after docs (decided_by (place (mark + k)) (place (mark + k + 1)) (mark + k + 1))) (means_at k (omega arith))
-      ∙ sym (after-append base (decisions place mark k) (decided_by (place (mark + k)) (place (mark + k + 1)) (mark + k + 1)))
+      ∙ ap (λ (docs : Docs). after docs (decided_by (trail (mark + k)) (trail (mark + k + 1)) (mark + k + 1))) (means_at k (omega arith))
+      ∙ sym (after-append base (decisions trail mark k) (decided_by (trail (mark + k)) (trail (mark + k + 1)) (mark + k + 1)))
     where
       next : (m k : ℕ) → m + suc k ≡ m + k + 1
       next m k = omega arith
 
   -- all calls between two places, as one step
-  steps_on : (j i : ℕ) → j + i ≤ n → IsStep (place (mark + j)) (place (mark + (j + i)))
-  steps_on j zero le = subst (λ (m : ℕ). IsStep (place (mark + j)) (place m)) (here mark j) (quiet_itself (place (mark + j)) (sound_at j (omega arith))).step
+  steps_on : (j i : ℕ) → j + i ≤ n → IsStep (trail (mark + j)) (trail (mark + (j + i)))
+  steps_on j zero le = subst (λ (m : ℕ). IsStep (trail (mark + j)) (trail m)) (here mark j) (quiet_itself (trail (mark + j)) (sound_at j (omega arith))).step
     where
       here : (m j : ℕ) → m + j ≡ m + (j + 0)
       here m j = omega arith
-  steps_on j (suc i) le = subst (λ (m : ℕ). IsStep (place (mark + j)) (place m)) (next mark j i) (step_then (steps_on j i (omega arith)) (step_of (t.calls (j + i) (omega arith))))
+  steps_on j (suc i) le = subst (λ (m : ℕ). IsStep (trail (mark + j)) (trail m)) (next mark j i) (step_then (steps_on j i (omega arith)) (step_of (t.calls (j + i) (omega arith))))
     where
       next : (m j i : ℕ) → m + (j + i) + 1 ≡ m + (j + suc i)
       next m j i = omega arith
 
-  pub steps_between : (j k : ℕ) → j ≤ k → k ≤ n → IsStep (place (mark + j)) (place (mark + k))
-  steps_between j k le within = subst (λ (m : ℕ). IsStep (place (mark + j)) (place (mark + m))) (sum j k le) (steps_on j (k - j) (omega arith))
+  pub steps_between : (j k : ℕ) → j ≤ k → k ≤ n → IsStep (trail (mark + j)) (trail (mark + k))
+  steps_between j k le within = subst (λ (m : ℕ). IsStep (trail (mark + j)) (trail (mark + m))) (sum j k le) (steps_on j (k - j) (omega arith))
     where
       sum : (j k : ℕ) → j ≤ k → j + (k - j) ≡ k
       sum j k le = omega arith
 
-  same_later : (j k : ℕ) (id : TxnId) (old new : Record) → j ≤ k → k ≤ n → record_at (place (mark + j)) id ≡ Some old → record_at (place (mark + k)) id ≡ Some new → SameTransaction old new
+  same_later : (j k : ℕ) (id : TxnId) (old new : Record) → j ≤ k → k ≤ n → record_at (trail (mark + j)) id ≡ Some old → record_at (trail (mark + k)) id ≡ Some new → SameTransaction old new
   unfolding look
   same_later j k id old new le within before after_ =
       let still = (steps_between j k le within).lost.records id old before in
       let same : still.now ≡ new = same_Some still.now new (sym still.there ∙ after_) in
       record { ops = sym (ap (λ (r : Record). r.ops) same) ∙ still.goes.ops; info = sym (ap (λ (r : Record). r.info) same) ∙ still.goes.info }
 
-  pub trail_faithful : IsFaithful place mark n base order
+  pub trail_faithful : IsFaithful trail mark n base order
   trail_faithful = record {
     order_is = t.order_is;
     sound = sound_at;

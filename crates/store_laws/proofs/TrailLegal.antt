@@ -8,35 +8,35 @@ use Rattle.txn_key.specs.declared.id.TxnId.{TxnId}
 use Rattle.txn_record.proofs.OrderLaws.{legal-push}
 use Rattle.txn_record.specs.Orders.{after, is_right, has_entry, legal}
 use Rattle.txn_record.specs.Effects.{tests}
-use Rattle.txn_record.specs.States.{is_chosen_state}
+use Rattle.txn_record.specs.States.{was_decided_state}
 use Rattle.txn_record.specs.declared.entry.Entry.{Entry}
 use Rattle.txn_record.specs.declared.record.Record.{Record}
 use Rattle.txn_record.specs.declared.state.State.{State}
 use Rattle.txn_record.specs.declared.state.State.TheVariants as state
 use Rattle.store_trait.specs.Contents.{Content}
-use Rattle.store_trait.specs.Decisions.{decided_by, decisions, entry_at, outcome_of}
-use Rattle.store_trait.specs.Meaning.{meaning}
-use Rattle.store_trait.specs.Steps.{ComesTo}
-use Rattle.store_trait.specs.View.{look, chosen}
+use Rattle.store_laws.specs.Decisions.{decided_by, decisions, entry_at, outcome_of}
+use Rattle.store_laws.specs.Meaning.{meaning}
+use Rattle.store_laws.specs.Steps.{ComesTo}
+use Rattle.store_laws.specs.View.{look, was_decided}
 use Rattle.store_laws.proofs.TrailGrows.{step_of}
 use Rattle.store_laws.proofs.TrailFaithful.{means_at}
 use Rattle.store_laws.proofs.Views.{chosen_at}
 use Rattle.store_laws.specs.Trail.{IsCall, Quiet, Applying, Aborting, IsTrail}
 
--- every entry is of a transaction that was chosen
+-- every entry is of a transaction that was decided
 abbrev AllChosen : Content → List Entry → Type 0
-AllChosen c entries = AllByRecursion (λ (e : Entry). chosen (look c) e.id ≡ true) entries
+AllChosen c entries = AllByRecursion (λ (e : Entry). was_decided (look c) e.id ≡ true) entries
 
 pub all_append : {X : Type 0} (P : X → Type 0) (xs ys : List X) → AllByRecursion P xs → AllByRecursion P ys → AllByRecursion P (xs ++ ys)
 all_append P [] ys p q = q
 all_append P (x ∷ xs) ys p q = (p.0, all_append P xs ys p.1 q)
 
-all_later : (c d : Content) → ((id : TxnId) → chosen (look c) id ≡ true → chosen (look d) id ≡ true) → (entries : List Entry) → AllChosen c entries → AllChosen d entries
+all_later : (c d : Content) → ((id : TxnId) → was_decided (look c) id ≡ true → was_decided (look d) id ≡ true) → (entries : List Entry) → AllChosen c entries → AllChosen d entries
 all_later c d goes [] all = tt
 all_later c d goes (e ∷ entries) all = (goes e.id all.0, all_later c d goes entries all.1)
 
--- a transaction that isn't chosen stands in no order of chosen ones
-not_there : (c : Content) (entry : Entry) → chosen (look c) entry.id ≡ false → (entries : List Entry) → AllChosen c entries → has_entry entries entry ≡ false
+-- a transaction that isn't decided stands in no order of decided ones
+not_there : (c : Content) (entry : Entry) → was_decided (look c) entry.id ≡ false → (entries : List Entry) → AllChosen c entries → has_entry entries entry ≡ false
 not_there c entry before [] all = refl
 not_there c entry before (e ∷ entries) all = by (bytes_eq e.id.0 entry.id.0) refl (not_there c entry before entries all.1)
   where
@@ -44,49 +44,49 @@ not_there c entry before (e ∷ entries) all = by (bytes_eq e.id.0 entry.id.0) r
     by true q rest =
         let bytes = (bytes_eq-Decides e.id.0 entry.id.0).0 q in
         let same : e.id ≡ entry.id = λ i. record { 0 = bytes i } in
-        absurd (true≢false (sym all.0 ∙ ap (chosen (look c)) same ∙ before))
+        absurd (true≢false (sym all.0 ∙ ap (was_decided (look c)) same ∙ before))
     by false q rest = λ i. q i || rest i
 
-comes_chosen : (old new : Content) (rec : Record) (to : State) → ComesTo old new rec to → is_chosen_state to ≡ true → chosen (look new) rec.id ≡ true
+comes_chosen : (old new : Content) (rec : Record) (to : State) → ComesTo old new rec to → was_decided_state to ≡ true → was_decided (look new) rec.id ≡ true
 unfolding look
-comes_chosen old new rec to comes chooses = chosen_at (look new) rec.id rec comes.now ∙ ap is_chosen_state comes.state ∙ chooses
+comes_chosen old new rec to comes chooses = chosen_at (look new) rec.id rec comes.now ∙ ap was_decided_state comes.state ∙ chooses
 
 decided_chosen : (old new : Content) (at : ℕ) → IsCall old new → AllChosen new (decided_by old new at)
 decided_chosen old new at (Quiet q) = subst (AllChosen new) (sym (q.none at)) tt
-decided_chosen old new at (Applying rec a) = subst (AllChosen new) (sym (a.one at)) (comes_chosen old new rec state.Applying a.chosen refl, tt)
-decided_chosen old new at (Aborting rec a) = subst (AllChosen new) (sym (a.one at)) (comes_chosen old new rec state.Aborting a.chosen refl, tt)
+decided_chosen old new at (Applying rec a) = subst (AllChosen new) (sym (a.one at)) (comes_chosen old new rec state.Applying a.decides refl, tt)
+decided_chosen old new at (Aborting rec a) = subst (AllChosen new) (sym (a.one at)) (comes_chosen old new rec state.Aborting a.decides refl, tt)
 
 -- a call adds to a legal order what keeps it so
 legal_goes : (old new : Content) (at : ℕ) (base : Docs) (order : List Entry) → IsCall old new → meaning old ≡ after base order → AllChosen old order → legal base order ≡ true → legal base (order ++ decided_by old new at) ≡ true
 legal_goes old new at base order (Quiet q) means all so_far = ap (λ (l : List Entry). legal base (order ++ l)) (q.none at) ∙ ap (legal base) (append-nil order) ∙ so_far
 legal_goes old new at base order (Applying rec a) means all so_far =
     ap (λ (l : List Entry). legal base (order ++ l)) (a.one at)
-    ∙ legal-push base order (entry_at at rec) so_far (not_there old (entry_at at rec) a.chosen.before order all)
-    ((λ i. is_right (outcome_of (a.chosen.state i)) (tests rec.ops (sym means i))) ∙ a.tested)
+    ∙ legal-push base order (entry_at at rec) so_far (not_there old (entry_at at rec) a.decides.before order all)
+    ((λ i. is_right (outcome_of (a.decides.state i)) (tests rec.ops (sym means i))) ∙ a.tested)
 legal_goes old new at base order (Aborting rec a) means all so_far =
     ap (λ (l : List Entry). legal base (order ++ l)) (a.one at)
-    ∙ legal-push base order (entry_at at rec) so_far (not_there old (entry_at at rec) a.chosen.before order all)
-    ((λ i. is_right (outcome_of (a.chosen.state i)) (tests rec.ops (sym means i))) ∙ right)
+    ∙ legal-push base order (entry_at at rec) so_far (not_there old (entry_at at rec) a.decides.before order all)
+    ((λ i. is_right (outcome_of (a.decides.state i)) (tests rec.ops (sym means i))) ∙ right)
   where
     right : is_right (outcome_of state.Aborting) (tests rec.ops (meaning old)) ≡ true
     right = ap (is_right (outcome_of state.Aborting)) a.failed
 
-module _ (place : ℕ → Content) (mark n : ℕ) (base : Docs) (order : List Entry) (t : IsTrail place mark n base order) where
-  all_chosen : (k : ℕ) → k ≤ n → AllChosen (place (mark + k)) (decisions place mark k)
+module _ (trail : ℕ → Content) (mark n : ℕ) (base : Docs) (order : List Entry) (t : IsTrail trail mark n base order) where
+  all_chosen : (k : ℕ) → k ≤ n → AllChosen (trail (mark + k)) (decisions trail mark k)
   all_chosen zero le = tt
   all_chosen (suc k) le =
-      subst (λ (m : ℕ). AllChosen (place m) (decisions place mark (suc k))) (next mark k)
-      (all_append (λ (e : Entry). chosen (look (place (mark + k + 1))) e.id ≡ true) (decisions place mark k) (decided_by (place (mark + k)) (place (mark + k + 1)) (mark + k + 1))
-      (all_later (place (mark + k)) (place (mark + k + 1)) (step_of (t.calls k (omega arith))).later.back.chooses (decisions place mark k) (all_chosen k (omega arith)))
-      (decided_chosen (place (mark + k)) (place (mark + k + 1)) (mark + k + 1) (t.calls k (omega arith))))
+      subst (λ (m : ℕ). AllChosen (trail m) (decisions trail mark (suc k))) (next mark k)
+      (all_append (λ (e : Entry). was_decided (look (trail (mark + k + 1))) e.id ≡ true) (decisions trail mark k) (decided_by (trail (mark + k)) (trail (mark + k + 1)) (mark + k + 1))
+      (all_later (trail (mark + k)) (trail (mark + k + 1)) (step_of (t.calls k (omega arith))).later.back.chooses (decisions trail mark k) (all_chosen k (omega arith)))
+      (decided_chosen (trail (mark + k)) (trail (mark + k + 1)) (mark + k + 1) (t.calls k (omega arith))))
     where
       next : (m k : ℕ) → m + k + 1 ≡ m + suc k
       next m k = omega arith
 
-  legal_at : (k : ℕ) → k ≤ n → legal base (decisions place mark k) ≡ true
+  legal_at : (k : ℕ) → k ≤ n → legal base (decisions trail mark k) ≡ true
   legal_at zero le = refl
   legal_at (suc k) le =
-      legal_goes (place (mark + k)) (place (mark + k + 1)) (mark + k + 1) base (decisions place mark k) (t.calls k (omega arith)) (means_at place mark n base order t k (omega arith)) (all_chosen k (omega arith)) (legal_at k (omega arith))
+      legal_goes (trail (mark + k)) (trail (mark + k + 1)) (mark + k + 1) base (decisions trail mark k) (t.calls k (omega arith)) (means_at trail mark n base order t k (omega arith)) (all_chosen k (omega arith)) (legal_at k (omega arith))
 
   pub trail_legal : legal base order ≡ true
   trail_legal = ap (legal base) t.order_is ∙ legal_at n (omega arith)

@@ -21,12 +21,12 @@ use Rattle.txn_record.specs.declared.record.Record.{Record}
 use Rattle.store_trait.specs.Cells.{as_doc}
 use Rattle.store_trait.specs.Contents.{Content}
 use Rattle.store_trait.specs.Edits.{same_token, hit_update, put_under, edited, is_updatable, with_body, has_token}
-use Rattle.store_trait.specs.Soundness.{IsSound}
-use Rattle.store_trait.specs.Steps.{IsQuiet}
-use Rattle.store_trait.specs.Readiness.{token, In}
-use Rattle.store_trait.specs.View.{View, Held, Number, look, doc_at, stash_at, owner_queue, held_number, waits_for_documents, epoch_at}
+use Rattle.store_laws.specs.Soundness.{IsSound}
+use Rattle.store_laws.specs.Steps.{IsQuiet}
+use Rattle.store_laws.specs.Readiness.{token, In}
+use Rattle.store_laws.specs.View.{View, Held, Number, look, doc_at, stash_at, owner_queue, held_number, is_queued_state, epoch_at}
 use Rattle.store_trait.specs.Names.{same_state}
-use Rattle.store_trait.specs.Meaning.{bodies, pending_of, not_done}
+use Rattle.store_laws.specs.Meaning.{bodies, pending_of, not_done}
 use Rattle.store_trait.specs.declared.cell.Cell.{Cell}
 use Rattle.store_trait.specs.declared.cell.Cell.TheVariants as cell
 use Rattle.store_trait.specs.declared.cell.DocCell.{DocCell}
@@ -36,7 +36,7 @@ use Rattle.store_trait.specs.Owners.{owner_of}
 use Rattle.store_trait.specs.declared.edit.Edit.TheVariants as edit
 use Rattle.store_trait.specs.declared.name.Name.TheVariants as name
 use Rattle.store_laws.specs.Chains.{AppliesUpdate, IsAt}
-use Rattle.store_trait.specs.Done.{HasPassed, progress, progress_of}
+use Rattle.store_laws.specs.Done.{HasPassed, progress, progress_of}
 use Rattle.store_laws.proofs.ChainOrder.{same_on_chain}
 use Rattle.store_laws.proofs.Done.{progress_epoch}
 use Rattle.store_laws.proofs.NumberAfter.{after_above}
@@ -164,7 +164,7 @@ module _ (c : Content) (s : IsSound c) (id : TxnId) (rec : Record) (op : Op) (re
   updates_there there nonce drawn = λ i. (Decides-int_eq there.doc.revno revno).1 there.at i && below_last revno (within_ends c s id rec op revno update u).0 i && in_is_there (token id nonce) there.doc.queue inside i
     where
       queued : In (token id nonce) (owner_queue (doc_at c op.key) (stash_at c op.key))
-      queued = s.queued id rec nonce op.key u.there (ap waits_for_documents u.applies) drawn (at_on op revno rec.ops u.numbers u.stands)
+      queued = s.queued id rec nonce op.key u.there (ap is_queued_state u.applies) drawn (at_on op revno rec.ops u.numbers u.stands)
 
       inside : In (token id nonce) there.doc.queue
       inside = subst (In (token id nonce)) (ap (λ (d : Option DocCell). owner_queue d (stash_at c op.key)) there.there ∙ owned_queue there.doc (stash_at c op.key) there.owns) queued

@@ -22,12 +22,12 @@ use Rattle.txn_record.specs.declared.record.Record.{Record}
 use Rattle.txn_record.specs.declared.state.State.TheVariants as state
 use Rattle.store_trait.specs.Cells.{as_record}
 use Rattle.store_trait.specs.Contents.{Content}
-use Rattle.store_trait.specs.Meaning.{bodies, pending_of, not_done, records}
+use Rattle.store_laws.specs.Meaning.{bodies, pending_of, not_done, records}
 use Rattle.store_trait.specs.Names.{same_state}
 use Rattle.store_trait.specs.Owners.{owner_of, epoch}
-use Rattle.store_trait.specs.Soundness.{IsSound, StandsOnChain, PendingFits}
-use Rattle.store_trait.specs.Steps.{IsQuiet}
-use Rattle.store_trait.specs.View.{Held, Body, look, record_at, doc_at, stash_at, applying, IsOn, HasKey, held_number, owner_held, owner_queue}
+use Rattle.store_laws.specs.Soundness.{IsSound, StandsOnChain, PendingFits}
+use Rattle.store_laws.specs.Steps.{IsQuiet}
+use Rattle.store_laws.specs.View.{Held, Body, look, record_at, doc_at, stash_at, applying, IsOn, HasKey, held_number, owner_held, owner_queue}
 use Rattle.store_trait.specs.declared.cell.Cell.TheVariants as cell
 use Rattle.store_trait.specs.declared.cell.DocCell.{DocCell}
 use Rattle.store_trait.specs.declared.name.Name.TheVariants as name
@@ -38,7 +38,7 @@ use Rattle.store_laws.proofs.CellRules.{HasSoundCells, sound_cells, cells_put_do
 use Rattle.store_laws.proofs.Changes.{IsOrderlyStep}
 use Rattle.store_laws.proofs.Decided.{decided_by-same}
 use Rattle.store_laws.proofs.Done.{done_put_doc}
-use Rattle.store_trait.specs.Done.{progress, progress_of}
+use Rattle.store_laws.specs.Done.{progress, progress_of}
 use Rattle.store_laws.proofs.Effects.{meaning-updated}
 use Rattle.store_laws.proofs.Exclusive.{one_applying}
 use Rattle.store_laws.proofs.Fitting.{changes_fit-agree, taken_fits}

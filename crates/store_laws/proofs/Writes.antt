@@ -2,13 +2,13 @@
 use Rattle.std.proofs.Common.{◌≡◌, true, [], ⊎_elim, subst, arith}
 use Rattle.txn_key.specs.declared.id.TxnId.{TxnId}
 use Rattle.txn_key.specs.declared.key.Key.{Key}
-use Rattle.store_trait.specs.View.{View, applying, HasKey}
-use Rattle.store_trait.specs.Readiness.{In, IsReady}
-use Rattle.store_trait.specs.Later.{IsUndecided, IsLater}
+use Rattle.store_laws.specs.View.{View, applying, HasKey}
+use Rattle.store_laws.specs.Readiness.{In, IsReady}
+use Rattle.store_laws.specs.Later.{IsUndecided, IsLater}
 use Rattle.store_laws.proofs.Shapes.{Counts, ChangesHeld}
 use Rattle.store_laws.proofs.Views.{waiting_if_undecided}
 use Rattle.store_laws.proofs.Orderly.{IsOrderly}
-use Rattle.store_laws.proofs.Exclusive.{is_queued, none_applying}
+use Rattle.store_laws.proofs.Exclusive.{stands_queued, none_applying}
 use Rattle.store_laws.proofs.Changes.{IsOrderlyStep, same_goes, later_by_records, same_later, same_orderly}
 use Rattle.store_laws.proofs.Equals.{same_key_or_not}
 
@@ -33,5 +33,5 @@ write_step key id o change applies has = held_step key o change (λ t undecided 
 -- A document is placed where no token waits.
 pub place_step : {old new : View} (key : Key) → IsOrderly old → ChangesHeld old new key → old.queue_at key ≡ [] → IsOrderlyStep old new
 place_step {old = old} key o change empty = held_step key o change (λ t undecided ready has.
-    let queued = is_queued old o t key has (waiting_if_undecided old t undecided.prepared undecided.waits) in
+    let queued = stands_queued old o t key has (waiting_if_undecided old t undecided.prepared undecided.waits) in
     subst (In _) empty queued.inside)

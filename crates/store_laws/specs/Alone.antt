@@ -3,8 +3,8 @@ use Rattle.std.specs.Prelude.{◌≡◌, ◌≢◌, true}
 use Rattle.txn_key.specs.declared.id.TxnId.{TxnId}
 use Rattle.txn_key.specs.declared.id.Token.{Token}
 use Rattle.txn_key.specs.declared.key.Key.{Key}
-use Rattle.store_trait.specs.View.{View, settled}
-use Rattle.store_trait.specs.Readiness.{In}
+use Rattle.store_laws.specs.View.{View, settled}
+use Rattle.store_laws.specs.Readiness.{In}
 
 -- every token in an owner queue is of a settled record, but for those of one record
 pub record IsAlone (view : View) (id : TxnId) : Type 0 where

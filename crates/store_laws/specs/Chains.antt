@@ -9,7 +9,7 @@ use Rattle.txn_record.specs.declared.record.Record.{Record}
 use Rattle.txn_record.specs.declared.state.State.TheVariants as state
 use Rattle.doc_value.specs.declared.value.Value.{Value}
 use Rattle.store_trait.specs.Contents.{Content}
-use Rattle.store_trait.specs.View.{View, record_at, IsOn, held_number}
+use Rattle.store_laws.specs.View.{View, record_at, IsOn, held_number}
 
 -- the number that each operation finds, begun where the owner of its key stands
 pub record IsChainFrom (view : View) (ops : List Op) (revnos : List ℤ) : Type 0 where

@@ -3,8 +3,8 @@ use Rattle.std.specs.Prelude.{List, ◌⊎◌}
 use Rattle.txn_key.specs.declared.id.TxnId.{TxnId}
 use Rattle.txn_key.specs.declared.id.Token.{Token}
 use Rattle.txn_key.specs.declared.key.Key.{Key}
-use Rattle.store_trait.specs.View.{View}
-use Rattle.store_trait.specs.Readiness.{In, StandsAt, IsSpent}
+use Rattle.store_laws.specs.View.{View}
+use Rattle.store_laws.specs.Readiness.{In, StandsAt, IsSpent}
 
 -- A token that was found before a record's valid token stands there still, or it may be taken out.
 abbrev pub IsFoundAt : View → Key → Token → TxnId → Type 0

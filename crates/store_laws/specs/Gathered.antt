@@ -7,8 +7,8 @@ use Rattle.txn_key.specs.declared.id.TxnId.{TxnId}
 use Rattle.txn_key.specs.declared.id.Token.{Token}
 use Rattle.txn_key.specs.declared.key.Key.{Key}
 use Rattle.txn_record.specs.Walks.{Leads}
-use Rattle.store_trait.specs.View.{View, decided, settled, valid_nonce}
-use Rattle.store_trait.specs.Readiness.{StandsAt, Precedes, IsClean}
+use Rattle.store_laws.specs.View.{View, was_prepared, settled, valid_nonce}
+use Rattle.store_laws.specs.Readiness.{StandsAt, Precedes, IsClean}
 
 pub record Gathering : Type 0 where
   pub ids : List TxnId
@@ -24,16 +24,16 @@ Closed g id = Contains g.closed id
 abbrev pub Edge : Gathering → TxnId → TxnId → Type 0
 Edge g u id = Contains g.edges (u, id)
 
--- each member is decided, each closed one is settled, and an edge stands or its first record is clean
+-- each member was prepared, each closed one is settled, and an edge stands or its first record is clean
 pub record IsGathered (view : View) (g : Gathering) : Type 0 where
-  pub decides : (id : TxnId) → Member g id → decided view id ≡ true
+  pub decides : (id : TxnId) → Member g id → was_prepared view id ≡ true
   pub settles : (id : TxnId) → Closed g id → settled view id ≡ true
   pub edges : (u id : TxnId) → Edge g u id → Precedes view u id ⊎ IsClean view u
 
--- a token before a member was followed: its record is decided, and if the token is valid, it is a
+-- a token before a member was followed: its record was prepared, and if the token is valid, it is a
 -- member with an edge
 pub record IsFollowed (view : View) (g : Gathering) (x : Token) (id : TxnId) : Type 0 where
-  pub decides : decided view x.id ≡ true
+  pub decides : was_prepared view x.id ≡ true
   pub edge : valid_nonce view x.id ≡ Some x.nonce → x.id ≢ id → Member g x.id × Edge g x.id id
 
 -- every token that stands before a member in the owner queue of a key was followed

@@ -9,7 +9,7 @@ use Rattle.txn_record.specs.declared.record.Record.{Record}
 use Rattle.txn_record.specs.declared.state.State.{State}
 use Rattle.store_trait.specs.Contents.{Content}
 use Rattle.store_trait.specs.Edits.{moved, with_token, is_updatable, nonce_limit}
-use Rattle.store_trait.specs.View.{record_at, doc_at, counter}
+use Rattle.store_laws.specs.View.{record_at, doc_at, counter}
 use Rattle.store_trait.specs.declared.cell.DocCell.{DocCell}
 
 -- no record was there, and now the one is

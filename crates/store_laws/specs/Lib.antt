@@ -8,3 +8,12 @@ pub mod Found
 pub mod Gathered
 pub mod Nonces
 pub mod Plain
+pub mod View
+pub mod Readiness
+pub mod Soundness
+pub mod Meaning
+pub mod Decisions
+pub mod History
+pub mod Steps
+pub mod Later
+pub mod Done

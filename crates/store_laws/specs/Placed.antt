@@ -4,10 +4,10 @@ use Rattle.std.specs.FinMap.{insert}
 use Rattle.doc_value.specs.declared.value.Value.{Value}
 use Rattle.txn_key.specs.declared.key.Key.{Key}
 use Rattle.store_trait.specs.Contents.{Content}
-use Rattle.store_trait.specs.Decisions.{decided_by}
-use Rattle.store_trait.specs.Later.{Later}
-use Rattle.store_trait.specs.Meaning.{meaning}
-use Rattle.store_trait.specs.Soundness.{IsSound}
+use Rattle.store_laws.specs.Decisions.{decided_by}
+use Rattle.store_laws.specs.Later.{Later}
+use Rattle.store_laws.specs.Meaning.{meaning}
+use Rattle.store_laws.specs.Soundness.{IsSound}
 use Rattle.store_trait.specs.declared.cell.DocCell.{DocCell}
 
 -- a document with no history

@@ -3,7 +3,7 @@ use Rattle.std.specs.Prelude.{◌≡◌, Option, Some, None, option_map}
 use Rattle.doc_value.specs.declared.value.Value.{Value}
 use Rattle.txn_key.specs.declared.key.Key.{Key}
 use Rattle.store_trait.specs.Contents.{Content}
-use Rattle.store_trait.specs.View.{doc_at, stash_at}
+use Rattle.store_laws.specs.View.{doc_at, stash_at}
 use Rattle.store_trait.specs.declared.cell.DocCell.{DocCell}
 
 -- no key has a stash entry, and no document is marked

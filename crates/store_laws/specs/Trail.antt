@@ -4,12 +4,12 @@ use Rattle.txn_key.specs.Documents.{Docs}
 use Rattle.txn_record.specs.declared.entry.Entry.{Entry}
 use Rattle.txn_record.specs.declared.record.Record.{Record}
 use Rattle.store_trait.specs.Contents.{Content}
-use Rattle.store_trait.specs.Decisions.{decisions, outcome_of}
-use Rattle.store_trait.specs.Meaning.{meaning}
-use Rattle.store_trait.specs.Soundness.{IsSound}
-use Rattle.txn_record.specs.States.{is_chosen_state}
-use Rattle.store_trait.specs.View.{record_at}
-use Rattle.store_trait.specs.Steps.{IsQuiet, Applies, Aborts}
+use Rattle.store_laws.specs.Decisions.{decisions, outcome_of}
+use Rattle.store_laws.specs.Meaning.{meaning}
+use Rattle.store_laws.specs.Soundness.{IsSound}
+use Rattle.txn_record.specs.States.{was_decided_state}
+use Rattle.store_laws.specs.View.{record_at}
+use Rattle.store_laws.specs.Steps.{IsQuiet, Applies, Aborts}
 
 -- what a call may come to: it decides nothing, or it is the decision on one transaction
 pub data IsCall (old new : Content) : Type 0 where
@@ -19,11 +19,11 @@ pub data IsCall (old new : Content) : Type 0 where
 
 -- The n calls after a mark, over sound content that meant the base then, with the decisions that they
 -- made in order.
-pub record IsTrail (place : ℕ → Content) (mark n : ℕ) (base : Docs) (order : List Entry) : Type 0 where
-  pub opens : IsSound (place mark)
-  pub base_is : meaning (place mark) ≡ base
-  pub calls : (k : ℕ) → k < n → IsCall (place (mark + k)) (place (mark + k + 1))
-  pub order_is : order ≡ decisions place mark n
+pub record IsTrail (trail : ℕ → Content) (mark n : ℕ) (base : Docs) (order : List Entry) : Type 0 where
+  pub opens : IsSound (trail mark)
+  pub base_is : meaning (trail mark) ≡ base
+  pub calls : (k : ℕ) → k < n → IsCall (trail (mark + k)) (trail (mark + k + 1))
+  pub order_is : order ≡ decisions trail mark n
 
 -- an entry tells of a record: its transaction, and which way it was decided
 pub record Tells (entry : Entry) (rec : Record) : Type 0 where
@@ -39,5 +39,5 @@ IsRecorded (entry ∷ entries) rec = Tells entry rec ⊎ IsRecorded entries rec
 pub record IsKept (c : Content) (entry : Entry) : Type 0 where
   pub rec : Record
   pub there : record_at c entry.id ≡ Some rec
-  pub chose : is_chosen_state rec.state ≡ true
+  pub chose : was_decided_state rec.state ≡ true
   pub tells : Tells entry rec

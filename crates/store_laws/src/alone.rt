@@ -7,9 +7,9 @@ ghost use Rattle.txn_key.specs.declared.id.TxnId.{TxnId};
 ghost use Rattle.txn_key.specs.declared.key.Key.{Key};
 ghost use Rattle.store_trait.specs.Contents.{Content};
 ghost use Rattle.store_trait.specs.Edits.{edited};
-ghost use Rattle.store_trait.specs.Later.{Later};
-ghost use Rattle.store_trait.specs.Readiness.{In, IsReady};
-ghost use Rattle.store_trait.specs.View.{View, look, stash_at, decided, settled};
+ghost use Rattle.store_laws.specs.Later.{Later};
+ghost use Rattle.store_laws.specs.Readiness.{In, IsReady};
+ghost use Rattle.store_laws.specs.View.{View, look, stash_at, was_prepared, settled};
 ghost use Rattle.store_trait.specs.declared.cell.Cell.TheVariants as cell;
 ghost use Rattle.store_trait.specs.declared.edit.Edit.{Edit};
 ghost use Rattle.store_trait.specs.declared.edit.Edit.TheVariants as edit;
@@ -18,10 +18,10 @@ ghost use Rattle.store_laws.specs.Alone.{IsAlone, IsAtRest};
 ghost use Rattle.store_laws.specs.Hits.{HasAdded};
 ghost use Rattle.store_laws.specs.Placed.{new_doc};
 
-/// A decided record among settled ones is ready. It may begin where all is at rest, and where it is
+/// A prepared record among settled ones is ready. It may begin where all is at rest, and where it is
 /// settled all is at rest again.
 pub fn being_alone_makes_ready()
-    ensures ready { (view : View) (id : TxnId) → IsAlone view id → decided view id ≡ true → IsReady view id }
+    ensures ready { (view : View) (id : TxnId) → IsAlone view id → was_prepared view id ≡ true → IsReady view id }
     ensures begins { (view : View) (id : TxnId) → IsAtRest view → IsAlone view id }
     ensures ends { (view : View) (id : TxnId) → IsAlone view id → settled view id ≡ true → IsAtRest view }
 {}

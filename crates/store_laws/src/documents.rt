@@ -4,9 +4,9 @@ ghost use Rattle.std.specs.FinMap.{get};
 ghost use Rattle.txn_key.specs.Documents.{Docs};
 ghost use Rattle.txn_key.specs.declared.key.Key.{Key};
 ghost use Rattle.store_trait.specs.Contents.{Content};
-ghost use Rattle.store_trait.specs.Meaning.{bodies, meaning};
-ghost use Rattle.store_trait.specs.Soundness.{IsSound};
-ghost use Rattle.store_trait.specs.View.{look};
+ghost use Rattle.store_laws.specs.Meaning.{bodies, meaning};
+ghost use Rattle.store_laws.specs.Soundness.{IsSound};
+ghost use Rattle.store_laws.specs.View.{look};
 ghost use Rattle.store_laws.specs.Alone.{IsAtRest};
 ghost use Rattle.store_laws.specs.Plain.{IsPlain, body_at};
 

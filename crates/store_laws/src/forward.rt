@@ -7,11 +7,11 @@ ghost use Rattle.txn_key.specs.declared.id.TxnId.{TxnId};
 ghost use Rattle.txn_key.specs.declared.key.Key.{Key};
 ghost use Rattle.store_trait.specs.Contents.{Content};
 ghost use Rattle.store_trait.specs.Edits.{hit, edited};
-ghost use Rattle.store_trait.specs.Later.{IsUndecided, Later};
-ghost use Rattle.store_trait.specs.Readiness.{IsReady, IsClean, IsSpent};
-ghost use Rattle.store_trait.specs.Soundness.{IsSound};
-ghost use Rattle.store_trait.specs.Steps.{IsStep, IsQuiet};
-ghost use Rattle.store_trait.specs.View.{look, decided, settled, waiting, applying, HasKey};
+ghost use Rattle.store_laws.specs.Later.{IsUndecided, Later};
+ghost use Rattle.store_laws.specs.Readiness.{IsReady, IsClean, IsSpent};
+ghost use Rattle.store_laws.specs.Soundness.{IsSound};
+ghost use Rattle.store_laws.specs.Steps.{IsStep, IsQuiet};
+ghost use Rattle.store_laws.specs.View.{look, was_prepared, settled, is_queued, applying, HasKey};
 ghost use Rattle.store_trait.specs.declared.edit.Edit.{Edit};
 ghost use Rattle.store_trait.specs.declared.name.Name.{Name};
 
@@ -26,7 +26,7 @@ pub fn steps_follow()
 /// A record that is ready stays so until it is settled. One that is clean stays so, and so does a token
 /// that may be taken out.
 pub fn readiness_lasts()
-    ensures ready { (c d : Content) (id : TxnId) → Later c d → decided (look c) id ≡ true → settled (look d) id ≡ false →
+    ensures ready { (c d : Content) (id : TxnId) → Later c d → was_prepared (look c) id ≡ true → settled (look d) id ≡ false →
         IsReady (look c) id → IsReady (look d) id }
     ensures clean { (c d : Content) (id : TxnId) → IsSound c → Later c d → IsClean (look c) id → IsClean (look d) id }
     ensures spent { (c d : Content) (x : Token) → IsSound c → Later c d → IsSpent (look c) x → IsSpent (look d) x }
@@ -35,8 +35,8 @@ pub fn readiness_lasts()
 /// No two ready records that wait have a key in common. So at most one applying record is on a key, and
 /// none on a key of a ready record that isn't decided yet.
 pub fn ready_records_share_no_key()
-    ensures waiting { (c : Content) (key : Key) (t u : TxnId) → IsSound c → HasKey (look c) t key → HasKey (look c) u key →
-        waiting (look c) t ≡ true → waiting (look c) u ≡ true → t ≢ u → IsReady (look c) t → IsReady (look c) u → ⊥ }
+    ensures queued { (c : Content) (key : Key) (t u : TxnId) → IsSound c → HasKey (look c) t key → HasKey (look c) u key →
+        is_queued (look c) t ≡ true → is_queued (look c) u ≡ true → t ≢ u → IsReady (look c) t → IsReady (look c) u → ⊥ }
     ensures applying { (c : Content) (key : Key) (t u : TxnId) → IsSound c → HasKey (look c) t key → HasKey (look c) u key →
         applying (look c) t ≡ true → applying (look c) u ≡ true → t ≢ u → ⊥ }
     ensures undecided { (c : Content) (key : Key) (t u : TxnId) → IsSound c → HasKey (look c) t key → HasKey (look c) u key →

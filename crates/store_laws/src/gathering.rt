@@ -6,10 +6,10 @@ ghost use Rattle.txn_key.specs.declared.id.TxnId.{TxnId};
 ghost use Rattle.txn_key.specs.declared.key.Key.{Key};
 ghost use Rattle.txn_record.specs.Walks.{Leads};
 ghost use Rattle.store_trait.specs.Contents.{Content};
-ghost use Rattle.store_trait.specs.Later.{Later};
-ghost use Rattle.store_trait.specs.Readiness.{token, In, Precedes, IsClean, IsReady};
-ghost use Rattle.store_trait.specs.Soundness.{IsSound};
-ghost use Rattle.store_trait.specs.View.{View, look, decided, settled, valid_nonce, HasKey};
+ghost use Rattle.store_laws.specs.Later.{Later};
+ghost use Rattle.store_laws.specs.Readiness.{token, In, Precedes, IsClean, IsReady};
+ghost use Rattle.store_laws.specs.Soundness.{IsSound};
+ghost use Rattle.store_laws.specs.View.{View, look, was_prepared, settled, valid_nonce, HasKey};
 ghost use Rattle.store_laws.specs.Found.{IsFoundAt, IsListed};
 ghost use Rattle.store_laws.specs.Gathered.{Gathering, Member, Closed, Edge, Grows, IsGathered, IsFollowed, IsScanned, IsFirst};
 
@@ -23,7 +23,7 @@ pub fn findings_last()
     ensures edge { (view : View) (key : Key) (x : Token) (id : TxnId) → IsFoundAt view key x id →
         valid_nonce view x.id ≡ Some x.nonce → x.id ≢ id → Precedes view x.id id ⊎ IsClean view x.id }
     ensures listed { (c d : Content) (key : Key) (id : TxnId) (found : List Token) → Later c d →
-        decided (look c) id ≡ true → IsListed (look c) key id found → IsListed (look d) key id found }
+        was_prepared (look c) id ≡ true → IsListed (look c) key id found → IsListed (look d) key id found }
     ensures missing { (c : Content) (key : Key) (id : TxnId) (nonce : ℕ) → IsSound c → HasKey (look c) id key →
         valid_nonce (look c) id ≡ Some nonce → (In (token id nonce) ((look c).queue_at key) → ⊥) →
         IsListed (look c) key id [] × (settled (look c) id ≡ true) }
@@ -37,7 +37,7 @@ pub fn gatherings_last()
     ensures followed { (c d : Content) (g : Gathering) (x : Token) (id : TxnId) → Later c d →
         IsFollowed (look c) g x id → IsFollowed (look d) g x id }
     ensures scanned { (c d : Content) (g : Gathering) (id : TxnId) (key : Key) → Later c d →
-        decided (look c) id ≡ true → IsScanned (look c) g id key → IsScanned (look d) g id key }
+        was_prepared (look c) id ≡ true → IsScanned (look c) g id key → IsScanned (look d) g id key }
     ensures followed_more { (view : View) (g h : Gathering) (x : Token) (id : TxnId) → Grows g h →
         IsFollowed view g x id → IsFollowed view h x id }
     ensures scanned_more { (view : View) (g h : Gathering) (id : TxnId) (key : Key) → Grows g h →

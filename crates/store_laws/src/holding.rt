@@ -2,8 +2,8 @@
 ghost use Rattle.std.specs.Prelude.{◌≡◌, Some, None, []};
 ghost use Rattle.txn_key.specs.declared.key.Key.{Key};
 ghost use Rattle.store_trait.specs.Contents.{Content};
-ghost use Rattle.store_trait.specs.Done.{progress};
-ghost use Rattle.store_trait.specs.View.{Body, look, doc_at, stash_at, epoch_at};
+ghost use Rattle.store_laws.specs.Done.{progress};
+ghost use Rattle.store_laws.specs.View.{Body, look, doc_at, stash_at, epoch_at};
 ghost use Rattle.store_trait.specs.declared.cell.DocCell.{DocCell};
 
 /// A document with no stash entry beside it owns its key: the owner queue is its queue, and its number

@@ -14,7 +14,7 @@ mod plain;
 mod preparing;
 mod settling;
 mod submitting;
-mod waiting;
+mod queueing;
 
 pub use alone::{being_alone_lasts, being_alone_makes_ready};
 pub use deciding::{
@@ -34,4 +34,4 @@ pub use settling::{
     updating_a_document, updating_too_late,
 };
 pub use submitting::{beginning_with_nothing, inserting_a_record, placing_a_document};
-pub use waiting::{adding_a_token, drawing_a_nonce, nonces_are_fresh, nonces_are_given};
+pub use queueing::{adding_a_token, drawing_a_nonce, nonces_are_fresh, nonces_are_given};

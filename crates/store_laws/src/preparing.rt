@@ -6,10 +6,10 @@ ghost use Rattle.txn_record.specs.declared.record.Record.{Record};
 ghost use Rattle.txn_record.specs.declared.state.State.TheVariants as state;
 ghost use Rattle.store_trait.specs.Contents.{Content};
 ghost use Rattle.store_trait.specs.Edits.{edited};
-ghost use Rattle.store_trait.specs.Readiness.{token, In};
-ghost use Rattle.store_trait.specs.Soundness.{IsSound};
-ghost use Rattle.store_trait.specs.Steps.{IsQuiet};
-ghost use Rattle.store_trait.specs.View.{look, record_at, counter, IsOn};
+ghost use Rattle.store_laws.specs.Readiness.{token, In};
+ghost use Rattle.store_laws.specs.Soundness.{IsSound};
+ghost use Rattle.store_laws.specs.Steps.{IsQuiet};
+ghost use Rattle.store_laws.specs.View.{look, record_at, counter, IsOn};
 ghost use Rattle.store_trait.specs.declared.edit.Edit.TheVariants as edit;
 ghost use Rattle.store_trait.specs.declared.name.Name.TheVariants as name;
 

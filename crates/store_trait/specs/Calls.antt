@@ -1,15 +1,21 @@
-use Rattle.std.specs.Prelude.{◌≡◌, ℕ, ◌+◌, ◌<◌, ◌≤◌, ◌⊎◌, nat_le, if◌then◌else◌, Bool, IsTrue, Option, Result, OnOk, OnErr, IsErrOf}
+use Rattle.std.specs.Prelude.{◌≡◌, ℕ, ◌+◌, ◌<◌, ◌≤◌, ◌⊎◌, nat_le, if◌then◌else◌, IsTrue, Option, Result, OnOk, IsErrOf, IfSome, is_some}
+use Rattle.std.specs.FinMap.{get}
 use Rattle.store_trait.specs.Contents.{Content}
+use Rattle.store_trait.specs.Edits.{hit, edited}
+use Rattle.store_trait.specs.Names.{may_stand}
 use Rattle.store_trait.specs.declared.name.Name.{Name}
 use Rattle.store_trait.specs.declared.cell.Cell.{Cell}
 use Rattle.store_trait.specs.declared.cell.Named.{Named}
 use Rattle.store_trait.specs.declared.edit.Edit.{Edit}
+use Rattle.store_trait.specs.declared.edit.Edited.{Edited}
+use Rattle.store_trait.specs.declared.store.StoreError.{StoreError}
+use Rattle.store_trait.specs.declared.store.StoreError.TheVariants.{Failed}
 
--- a call on a store with its arguments and its answer
+-- a call on a store with its arguments and its answer, which may be a refusal
 pub data Exchange : Type 0 where
-  Reads : Name → Option Cell → Exchange
-  Edits : Name → Edit → Bool → Option Cell → Exchange
-  Lists : Option Name → Option Named → Exchange
+  Reads : Name → Result (Option Cell) StoreError → Exchange
+  Edits : Name → Edit → Result Edited StoreError → Exchange
+  Lists : Option Name → Result (Option Named) StoreError → Exchange
 
 -- how many calls a store counts at most
 abbrev pub call_limit : ℕ
@@ -23,24 +29,33 @@ counted_call calls = if nat_le call_limit calls then calls else calls + 1
 abbrev pub Rose : ℕ → ℕ → Type 0
 Rose old new = (old < new) ⊎ (new ≡ 18446744073709551615)
 
--- The trail of contents goes on: the places so far stay, and the present content stands at the
+-- The trail of contents goes on: what stood on it so far stays, and the present content stands at the
 -- present call.
-pub record GoesOn (old_place new_place : ℕ → Content) (old_calls new_calls : ℕ) (content : Content) : Type 0 where
-  pub before : (n : ℕ) → n ≤ old_calls → new_place n ≡ old_place n
-  pub here : new_place new_calls ≡ content
+pub record GoesOn (old new : ℕ → Content) (old_calls new_calls : ℕ) (content : Content) : Type 0 where
+  pub before : (n : ℕ) → n ≤ old_calls → new n ≡ old n
+  pub here : new new_calls ≡ content
 
--- What one call on a store keeps, whatever it answers: the trail, the count of calls, the count of
--- faults, and that it fails only where that count rose. A step of one call at most keeps it too: one
--- that is refused before its call counts none.
-pub record OneCall {S T E : Type 0} (tells : Bool) (content : S → Content) (place : S → ℕ → Content) (calls faults : S → ℕ) (old new : S) (result : Result T E) (failed : E) : Type 0 where
-  pub trail : IsTrue tells → GoesOn (place old) (place new) (calls old) (calls new) (content new)
-  pub counted : OnOk result (calls new ≡ calls old + 1)
-  pub counted_err : OnErr result ((calls new ≡ calls old + 1) ⊎ (calls new ≡ calls old))
-  pub later : faults old ≤ faults new
-  pub fault : IsErrOf result failed → Rose (faults old) (faults new)
+abbrev pub Extends : {S : Type 0} → (S → Content) → (S → ℕ → Content) → (S → ℕ) → S → S → Type 0
+Extends content trail calls old new =
+    GoesOn (trail old) (trail new) (calls old) (calls new) (content new)
 
--- What any number of calls on a store keep.
-pub record CallsGoOn {S : Type 0} (tells : Bool) (content : S → Content) (place : S → ℕ → Content) (calls faults : S → ℕ) (old new : S) : Type 0 where
-  pub trail : IsTrue tells → GoesOn (place old) (place new) (calls old) (calls new) (content new)
-  pub counted : calls old ≤ calls new
+-- A call is counted, whatever it answers. It fails only where the count of faults rose, which never
+-- falls, and always once no further call is counted.
+pub record IsCounted {S A : Type 0} (calls faults : S → ℕ) (old new : S) (result : Result A StoreError)
+    : Type 0 where
+  pub once : calls new ≡ counted_call (calls old)
+  pub made : OnOk result (calls new ≡ calls old + 1)
   pub later : faults old ≤ faults new
+  pub fault : IsErrOf result Failed → Rose (faults old) (faults new)
+  pub spent : call_limit ≤ calls old → IsErrOf result Failed
+
+-- an edit was made where its guard held, and the answer says so, with the cell after it
+pub record IsMade (old : Content) (name : Name) (edit : Edit) (new : Content) (done : Edited)
+    : Type 0 where
+  pub made : new ≡ edited old name edit
+  pub hit : done.hit ≡ is_some (hit edit name (get old name))
+  pub cell : done.cell ≡ get new name
+
+-- a cell that is answered for a name may stand under it
+abbrev pub IsOfKind : Name → Option Cell → Type 0
+IsOfKind name found = IfSome found (λ cell. IsTrue (may_stand name cell))

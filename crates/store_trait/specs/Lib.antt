@@ -5,12 +5,4 @@ pub mod Edits
 pub mod Changes
 pub mod Owners
 pub mod Calls
-pub mod View
-pub mod Readiness
-pub mod Soundness
-pub mod Later
-pub mod Meaning
-pub mod Decisions
-pub mod History
-pub mod Steps
-pub mod Done
+pub mod Stores

@@ -14,11 +14,11 @@ use Rattle.txn_record.specs.declared.record.Record.{Record}
 use Rattle.txn_record.specs.declared.state.State.{State}
 use Rattle.txn_record.specs.declared.state.State.TheVariants as state
 use Rattle.store_trait.specs.Contents.{Content}
-use Rattle.store_trait.specs.Later.{may_follow}
+use Rattle.store_laws.specs.Later.{may_follow}
 use Rattle.store_trait.specs.Names.{same_id}
-use Rattle.store_trait.specs.Soundness.{IsSound}
-use Rattle.store_trait.specs.Steps.{IsStep}
-use Rattle.store_trait.specs.View.{look, record_at, settled, state_passes}
+use Rattle.store_laws.specs.Soundness.{IsSound}
+use Rattle.store_laws.specs.Steps.{IsStep}
+use Rattle.store_laws.specs.View.{look, record_at, settled, state_passes}
 use Rattle.store_laws.proofs.AmongSettled.{rest_alone, alone_rest}
 use Rattle.store_laws.proofs.Chained.{step_then}
 use Rattle.store_laws.proofs.Misses.{quiet_itself}
@@ -83,7 +83,7 @@ both_every P Q R f (txn ∷ waiting) p q = (f txn p.0 q.0, both_every P Q R f wa
 
 -- ---- calls for one transaction of a batch
 
-module _ {S : Type 0} (content : S → Content) (place : S → ℕ → Content) (calls : S → ℕ) where
+module _ {S : Type 0} (content : S → Content) (trail : S → ℕ → Content) (calls : S → ℕ) where
   others_all : (c d : Content) (id : TxnId) (waiting : List Waiting) → waits waiting id ≡ true → KeepsOthers c d id → KeepsAllBut c d waiting
   others_all c d id waiting in_it keeps = record {
     records = λ other out. keeps.records other (λ same. absurd (clash (subst (λ (x : TxnId). waits waiting x ≡ false) same out) in_it));
@@ -96,7 +96,7 @@ module _ {S : Type 0} (content : S → Content) (place : S → ℕ → Content) 
   all_then : {a b c : Content} (waiting : List Waiting) → KeepsAllBut a b waiting → KeepsAllBut b c waiting → KeepsAllBut a c waiting
   all_then waiting one two = record { records = λ other out. two.records other out ∙ one.records other out; docs = λ key there. two.docs key (one.docs key there) }
 
-  pub batch_none : (s : S) (waiting : List Waiting) (order : List Entry) → IsSound (content s) → WorksOnBatch content place calls s s order order waiting
+  pub batch_none : (s : S) (waiting : List Waiting) (order : List Entry) → IsSound (content s) → WorksOnBatch content trail calls s s order order waiting
   batch_none s waiting order sound = record {
     run = λ mark base h. h;
     step = (quiet_itself (content s) sound).step;
@@ -104,8 +104,8 @@ module _ {S : Type 0} (content : S → Content) (place : S → ℕ → Content) 
     decided = λ all. all;
   }
 
-  pub batch_then : (a b c : S) (before between after : List Entry) (waiting : List Waiting) → WorksOnBatch content place calls a b before between waiting → WorksOnBatch content place calls b c between after waiting
-      → WorksOnBatch content place calls a c before after waiting
+  pub batch_then : (a b c : S) (before between after : List Entry) (waiting : List Waiting) → WorksOnBatch content trail calls a b before between waiting → WorksOnBatch content trail calls b c between after waiting
+      → WorksOnBatch content trail calls a c before after waiting
   batch_then a b c before between after waiting one two = record {
     run = λ mark base h. two.run mark base (one.run mark base h);
     step = step_then one.step two.step;
@@ -113,8 +113,8 @@ module _ {S : Type 0} (content : S → Content) (place : S → ℕ → Content) 
     decided = λ all. two.decided (one.decided all);
   }
 
-  pub batch_works : (a b c : S) (before between after : List Entry) (waiting : List Waiting) (id : TxnId) → waits waiting id ≡ true → WorksOnBatch content place calls a b before between waiting
-      → WorksOn content place calls b c between after id → WorksOnBatch content place calls a c before after waiting
+  pub batch_works : (a b c : S) (before between after : List Entry) (waiting : List Waiting) (id : TxnId) → waits waiting id ≡ true → WorksOnBatch content trail calls a b before between waiting
+      → WorksOn content trail calls b c between after id → WorksOnBatch content trail calls a c before after waiting
   batch_works a b c before between after waiting id in_it one two = record {
     run = λ mark base h. two.run mark base (one.run mark base h);
     step = step_then one.step two.step;
@@ -124,10 +124,10 @@ module _ {S : Type 0} (content : S → Content) (place : S → ℕ → Content) 
 
 -- ---- submission
 
-module _ {S : Type 0} (content : S → Content) (place : S → ℕ → Content) (calls : S → ℕ) where
-  pub submitting_begins : (s : S) (waiting : List Waiting) → MayRun (content s) waiting → IsSubmitting content place calls s s waiting waiting
+module _ {S : Type 0} (content : S → Content) (trail : S → ℕ → Content) (calls : S → ℕ) where
+  pub submitting_begins : (s : S) (waiting : List Waiting) → MayRun (content s) waiting → IsSubmitting content trail calls s s waiting waiting
   submitting_begins s waiting may = record {
-    works = λ order. batch_none content place calls s waiting order may.calm.sound;
+    works = λ order. batch_none content trail calls s waiting order may.calm.sound;
     uses = uses_none (content s);
     calm = may.calm;
     may_begin = may.may_begin;
@@ -138,21 +138,21 @@ module _ {S : Type 0} (content : S → Content) (place : S → ℕ → Content) 
   }
 
   -- the insertion of a record that isn't there leaves those that are
-  keeps_present : (now next : S) (txn : Waiting) → record_at (content now) txn.id ≡ None → ((order : List Entry) → WorksOn content place calls now next order order txn.id) → KeepsPresent (content now) (content next)
+  keeps_present : (now next : S) (txn : Waiting) → record_at (content now) txn.id ≡ None → ((order : List Entry) → WorksOn content trail calls now next order order txn.id) → KeepsPresent (content now) (content next)
   keeps_present now next txn fresh works id rec there =
       (works []).others.records id (λ same. absurd (both_ways (record_at (content now) txn.id) (subst (λ (x : TxnId). record_at (content now) x ≡ Some rec) same there) fresh)) ∙ there
     where
       both_ways : (o : Option Record) → o ≡ Some rec → o ≡ None → ⊥
       both_ways o p q = cc
 
-  pub submitting_next : (old now next : S) (waiting : List Waiting) (txn : Waiting) (left : List Waiting) → IsSubmitting content place calls old now waiting (txn ∷ left)
-      → ((order : List Entry) → WorksOn content place calls now next order order txn.id) → Uses (content now) (content next) 0 0 0 0 → IsCalm (content next) → IsSubmitted (content next) txn → IsSubmitting content place calls old next waiting left
+  pub submitting_next : (old now next : S) (waiting : List Waiting) (txn : Waiting) (left : List Waiting) → IsSubmitting content trail calls old now waiting (txn ∷ left)
+      → ((order : List Entry) → WorksOn content trail calls now next order order txn.id) → Uses (content now) (content next) 0 0 0 0 → IsCalm (content next) → IsSubmitted (content next) txn → IsSubmitting content trail calls old next waiting left
   submitting_next old now next waiting txn left h works uses calm stands =
       let distinct = and_parts _ _ h.distinct in
       let others = (works []).others in
       let apart = apart_from txn.id left (not_false (waits left txn.id) distinct.0) in
       record {
-        works = λ order. batch_works content place calls old now next order order order waiting txn.id h.within.0 (h.works order) (works order);
+        works = λ order. batch_works content trail calls old now next order order order waiting txn.id h.within.0 (h.works order) (works order);
         uses = uses_then h.uses uses;
         calm = calm;
         may_begin = both_every (λ other. other.id ≢ txn.id) (MayBegin (content now)) (MayBegin (content next)) (λ other apart may. record { fresh = others.records other.id apart ∙ may.fresh; docs = docs_stay (content now) (content next) other others.docs may.docs }) left apart h.may_begin.1;
@@ -166,8 +166,8 @@ module _ {S : Type 0} (content : S → Content) (place : S → ℕ → Content) 
       stays = keeps_present now next txn h.may_begin.0.fresh works
 
   -- a transaction whose submission was refused left no record
-  pub submitting_refused : (old now next : S) (waiting : List Waiting) (txn : Waiting) (left : List Waiting) → IsSubmitting content place calls old now waiting (txn ∷ left)
-      → ((order : List Entry) → WorksOn content place calls now next order order txn.id) → record_at (content next) txn.id ≡ record_at (content now) txn.id → Every (HasOwnOperations (content next)) waiting
+  pub submitting_refused : (old now next : S) (waiting : List Waiting) (txn : Waiting) (left : List Waiting) → IsSubmitting content trail calls old now waiting (txn ∷ left)
+      → ((order : List Entry) → WorksOn content trail calls now next order order txn.id) → record_at (content next) txn.id ≡ record_at (content now) txn.id → Every (HasOwnOperations (content next)) waiting
   submitting_refused old now next waiting txn left h works still =
       let apart = apart_from txn.id left (not_false (waits left txn.id) (and_parts _ _ h.distinct).0) in
       h.own (content next) (keeps_present now next txn h.may_begin.0.fresh works) (
@@ -175,7 +175,7 @@ module _ {S : Type 0} (content : S → Content) (place : S → ℕ → Content) 
         both_every (λ other. other.id ≢ txn.id) (MayBegin (content now)) (HasOwnOperations (content next)) (λ other apart may. own_none (content next) other ((works []).others.records other.id apart ∙ may.fresh)) left apart h.may_begin.1,
       )
 
-  pub submitting_ends : (old now : S) (waiting : List Waiting) → MayRun (content old) waiting → IsSubmitting content place calls old now waiting [] → IsBegun (content now) waiting
+  pub submitting_ends : (old now : S) (waiting : List Waiting) → MayRun (content old) waiting → IsSubmitting content trail calls old now waiting [] → IsBegun (content now) waiting
   submitting_ends old now waiting may h = record {
     calm = h.calm;
     submitted = h.done (content now) (λ id rec there. there) tt;
@@ -231,10 +231,10 @@ settled_now c txn o e = ap (state_passes is_settled_state) e.there ∙ by o e.re
 pub begins_worth : (c : Content) (txn : Waiting) (left : List Waiting) → IsBegun c (txn ∷ left) → IsWorth c txn stage.Draw
 begins_worth c txn left b = record { sound = b.calm.sound; plain = b.calm.plain; alone = rest_alone txn.id b.calm.rests; docs = b.docs.0; stage = b.submitted.0 }
 
-module _ {S : Type 0} (content : S → Content) (place : S → ℕ → Content) (calls : S → ℕ) where
-  pub settling_begins : (s : S) (order : List Entry) (waiting : List Waiting) → IsBegun (content s) waiting → IsSettling content place calls s s order order waiting waiting []
+module _ {S : Type 0} (content : S → Content) (trail : S → ℕ → Content) (calls : S → ℕ) where
+  pub settling_begins : (s : S) (order : List Entry) (waiting : List Waiting) → IsBegun (content s) waiting → IsSettling content trail calls s s order order waiting waiting []
   settling_begins s order waiting b = record {
-    works = batch_none content place calls s waiting order b.calm.sound;
+    works = batch_none content trail calls s waiting order b.calm.sound;
     uses = uses_within (uses_none (content s)) (omega arith) (omega arith);
     begun = b;
     within = all_wait waiting;
@@ -243,14 +243,14 @@ module _ {S : Type 0} (content : S → Content) (place : S → ℕ → Content) 
   }
 
   pub settling_next : (old now next : S) (before order after : List Entry) (waiting : List Waiting) (txn : Waiting) (left : List Waiting) (lines more : List ℕ) (o : Outcome)
-      → IsSettling content place calls old now before order waiting (txn ∷ left) lines
-      → WorksOn content place calls now next order after txn.id → Uses (content now) (content next) 1 1 0 0 → IsWorth (content next) txn (stage.Settled o) → more ≡ lines ++ state_line txn.id (settled_state o)
-      → IsSettling content place calls old next before after waiting left more
+      → IsSettling content trail calls old now before order waiting (txn ∷ left) lines
+      → WorksOn content trail calls now next order after txn.id → Uses (content now) (content next) 1 1 0 0 → IsWorth (content next) txn (stage.Settled o) → more ≡ lines ++ state_line txn.id (settled_state o)
+      → IsSettling content trail calls old next before after waiting left more
   settling_next old now next before order after waiting txn left lines more o h works uses worth printed =
       let distinct = and_parts _ _ h.begun.distinct in
       let apart = apart_from txn.id left (not_false (waits left txn.id) distinct.0) in
       record {
-        works = batch_works content place calls old now next before order after waiting txn.id h.within.0 h.works works;
+        works = batch_works content trail calls old now next before order after waiting txn.id h.within.0 h.works works;
         uses = uses_one_more (length left) h.uses uses;
         begun = record {
           calm = record { sound = worth.sound; plain = worth.plain; rests = alone_rest txn.id worth.alone (settled_now (content next) txn o worth.stage) };
@@ -267,7 +267,7 @@ module _ {S : Type 0} (content : S → Content) (place : S → ℕ → Content) 
             ∙ ap (λ (l : List ℕ). l ++ batch_text d left) (sym printed);
       }
 
-  pub settling_ends : (old now : S) (before order : List Entry) (waiting : List Waiting) (lines : List ℕ) → IsSettling content place calls old now before order waiting [] lines → IsDoneWith (content now) waiting lines
+  pub settling_ends : (old now : S) (before order : List Entry) (waiting : List Waiting) (lines : List ℕ) → IsSettling content trail calls old now before order waiting [] lines → IsDoneWith (content now) waiting lines
   settling_ends old now before order waiting lines h =
       let same = (quiet_itself (content now) h.begun.calm.sound).step in
       record {

@@ -24,15 +24,15 @@ pub on_any : {T E A : Type 0} (r : Result T E) → A → OnOk r A
 on_any (Ok x) a = a
 on_any (Err e) a = tt
 
-module _ {S : Type 0} (content : S → Content) (place : S → ℕ → Content) (calls : S → ℕ) (from : ℕ) (script : List ℕ) (start : Progress) (n taken : ℕ) (input : List ℕ) (session next : Session S) (sink_tells : Bool) (old_written written now : List ℕ)
-    (before : (k : ℕ) → k ≤ calls session.store → place next.store k ≡ place session.store k) (later : calls session.store ≤ calls next.store)
-    (h : HasCome content (place session.store) from (calls session.store) script start n taken input session sink_tells old_written written) (read : reading taken input ≡ Ok None) where
+module _ {S : Type 0} (content : S → Content) (trail : S → ℕ → Content) (calls : S → ℕ) (from : ℕ) (script : List ℕ) (start : Progress) (n taken : ℕ) (input : List ℕ) (session next : Session S) (sink_tells : Bool) (old_written written now : List ℕ)
+    (before : (k : ℕ) → k ≤ calls session.store → trail next.store k ≡ trail session.store k) (later : calls session.store ≤ calls next.store)
+    (h : HasCome content (trail session.store) from (calls session.store) script start n taken input session sink_tells old_written written) (read : reading taken input ≡ Ok None) where
   at_end : next_of n script ≡ Ok None
   at_end = next_is script start n taken input (at content session h.printed) (Ok None) h.plays read
 
-  pub ends_played : place next.store (calls next.store) ≡ content next.store → (result : Result (Unit {0}) Fault) → OnOk result (HasDone content (RunsWaiting session.batch) session next sink_tells written now) → OnOk result (next.batch ≡ [])
-      → OnOk result (HasPlayed script start (content next.store) (place next.store) from (calls next.store) next.runs.items sink_tells old_written now)
-  ends_played here (Ok x) ran cleared = plays_out content (place session.store) (place next.store) from (calls session.store) (calls next.store) script start n taken input session sink_tells old_written written before later next now h read at_end ran here cleared
+  pub ends_played : trail next.store (calls next.store) ≡ content next.store → (result : Result (Unit {0}) Fault) → OnOk result (HasDone content (RunsWaiting session.batch) session next sink_tells written now) → OnOk result (next.batch ≡ [])
+      → OnOk result (HasPlayed script start (content next.store) (trail next.store) from (calls next.store) next.runs.items sink_tells old_written now)
+  ends_played here (Ok x) ran cleared = plays_out content (trail session.store) (trail next.store) from (calls session.store) (calls next.store) script start n taken input session sink_tells old_written written before later next now h read at_end ran here cleared
   ends_played here (Err f) ran cleared = tt
 
   -- the end is refused where a batch waits that may not run
@@ -54,15 +54,15 @@ module _ {S : Type 0} (content : S → Content) (place : S → ℕ → Content) 
   of_end untaken (fault.Repeated id) refused kind = tt
 
   pub ends_stopped : (untaken : List ℕ) (result : Result (Unit {0}) Fault) → IfErr result IsOfStatement → IfErr result IsUnspent → IfErr result (λ f. IsOfLine f → (session.was_empty ≡ false) × (session.batch ≢ []) × (f ≡ not_built (n + 1)))
-      → IfErr result (StopsAs content place true RunsItself session next sink_tells written now)
-      → IfErr result (λ f. HasStopped script untaken start (content next.store) (place next.store) from (calls next.store) f next.runs.items sink_tells old_written now)
+      → IfErr result (StopsAs content trail true RunsItself session next sink_tells written now)
+      → IfErr result (λ f. HasStopped script untaken start (content next.store) (trail next.store) from (calls next.store) f next.runs.items sink_tells old_written now)
   ends_stopped untaken (Ok x) kind unspent refused stops = tt
   ends_stopped untaken (Err f) kind unspent refused stops =
-      stops_here content (place session.store) (place next.store) from (calls session.store) (calls next.store) script start n taken input session sink_tells old_written written before later
-      untaken true RunsItself next place f now h refl (λ may. ap next_may_run at_end) (λ p q ran. DoesNext.Batch (ap next_lets_run at_end) ran) (of_end untaken f refused kind) unspent stops
+      stops_here content (trail session.store) (trail next.store) from (calls session.store) (calls next.store) script start n taken input session sink_tells old_written written before later
+      untaken true RunsItself next trail f now h refl (λ may. ap next_may_run at_end) (λ p q ran. DoesNext.Batch (ap next_lets_run at_end) ran) (of_end untaken f refused kind) unspent stops
 
 -- a line that isn't read
-module _ {S : Type 0} (content : S → Content) (place : ℕ → Content) (from to : ℕ) (script untaken : List ℕ) (start : Progress) (n taken : ℕ) (input : List ℕ) (session : Session S) (sink_tells : Bool) (old_written written : List ℕ) (h : HasCome content place from to script start n taken input session sink_tells old_written written) where
+module _ {S : Type 0} (content : S → Content) (trail : ℕ → Content) (from to : ℕ) (script untaken : List ℕ) (start : Progress) (n taken : ℕ) (input : List ℕ) (session : Session S) (sink_tells : Bool) (old_written written : List ℕ) (h : HasCome content trail from to script start n taken input session sink_tells old_written written) where
   of_length : (why : LineFault) (f : Fault)
       → (why ≡ line_fault.TooLong → reading taken input ≡ Err line_fault.TooLong)
       → (why ≡ line_fault.ScriptTooLong → reading taken input ≡ Err line_fault.ScriptTooLong)
@@ -105,7 +105,7 @@ module _ {S : Type 0} (content : S → Content) (place : ℕ → Content) (from 
       → (why ≡ line_fault.ScriptTooLong → reading taken input ≡ Err line_fault.ScriptTooLong)
       → (f ≡ fault.Input → IsPartTaken input untaken)
       → (f ≢ fault.OutOfMemory → f ≡ fault_of_line (n + 1) why)
-      → IsOfReading f → IsUnspent f → HasStopped script untaken start (content session.store) place from to f session.runs.items sink_tells old_written written
+      → IsOfReading f → IsUnspent f → HasStopped script untaken start (content session.store) trail from to f session.runs.items sink_tells old_written written
   unread why f long script_long part exact kind unspent = record {
     done = n;
     last = at content session h.printed;
@@ -118,7 +118,7 @@ module _ {S : Type 0} (content : S → Content) (place : ℕ → Content) (from 
       still : Stays (content session.store) session.runs.items (content session.store) session.runs.items
       still = record { holds = refl; runs = refl }
 
-      by : (f : Fault) → IsOfReading f → IsOfNext script untaken n (at content session h.printed) f → StopsWith script untaken n (at content session h.printed) (content session.store) place session.runs.items sink_tells (old_written ++ h.printed) written f
+      by : (f : Fault) → IsOfReading f → IsOfNext script untaken n (at content session h.printed) f → StopsWith script untaken n (at content session h.printed) (content session.store) trail session.runs.items sink_tells (old_written ++ h.printed) written f
       by (fault.Line number text) kind named = (record { next = named; left = still }, h.writes)
       by fault.Input kind named = (record { next = named; left = still }, h.writes)
       by fault.OutOfMemory kind named = (record { next = named; left = inl still }, h.writes)

@@ -32,13 +32,13 @@ is_output (fault.Spent error) = inr (λ e. cc)
 is_output (fault.Broken error) = inr (λ e. cc)
 is_output (fault.Repeated id) = inr (λ e. cc)
 
-module _ (script untaken : List ℕ) (done : ℕ) (last : Progress) (content : Content) (place : ℕ → Content) (runs : List Run) where
+module _ (script untaken : List ℕ) (done : ℕ) (last : Progress) (content : Content) (trail : ℕ → Content) (runs : List Run) where
   -- want of memory leaves what any other refusal may leave
   begun_any : (may_run : Bool) {A B C : Type 0} → A ⊎ ((may_run ≡ true) × B × C) → A ⊎ ((may_run ≡ true) × B)
   begun_any may_run (inl stays) = inl stays
   begun_any may_run (inr begun) = inr (begun.0, begun.1)
 
-  leaves_memory : (why : Fault) → Leaves script untaken done last content place runs why → Leaves script untaken done last content place runs fault.OutOfMemory
+  leaves_memory : (why : Fault) → Leaves script untaken done last content trail runs why → Leaves script untaken done last content trail runs fault.OutOfMemory
   leaves_memory fault.Output h = elim h.left [ ]
   leaves_memory fault.OutOfMemory h = h
   leaves_memory fault.Words h = record { next = tt; left = inl h.left }
@@ -50,7 +50,7 @@ module _ (script untaken : List ℕ) (done : ℕ) (last : Progress) (content : C
   leaves_memory (fault.Repeated id) h = record { next = tt; left = begun_any (next_may_run (next_of done script)) h.left }
 
   module _ (sink_tells : Bool) (before written : List ℕ) where
-    stops_other : (why : Fault) → why ≢ fault.Output → StopsWith script untaken done last content place runs sink_tells before written why → Leaves script untaken done last content place runs why × (IsTrue sink_tells → written ≡ before)
+    stops_other : (why : Fault) → why ≢ fault.Output → StopsWith script untaken done last content trail runs sink_tells before written why → Leaves script untaken done last content trail runs why × (IsTrue sink_tells → written ≡ before)
     stops_other fault.Output other h = absurd (other refl)
     stops_other fault.OutOfMemory other h = h
     stops_other fault.Words other h = h
@@ -63,7 +63,7 @@ module _ (script untaken : List ℕ) (done : ℕ) (last : Progress) (content : C
 
   module _ (Caused : Fault → Type 0) (sink_tells : Bool) (before written now : List ℕ) (rose : Type 0) where
     -- after a fault of the output there is no last line
-    ends_cut : HasCut script done last content runs sink_tells before written → now ≡ written → EndsWith Caused script untaken done last content place runs sink_tells before now fault.Output
+    ends_cut : HasCut script done last content runs sink_tells before written → now ≡ written → EndsWith Caused script untaken done last content trail runs sink_tells before now fault.Output
     ends_cut cut same = inl (record {
       next = cut.next;
       does = cut.does;
@@ -74,19 +74,19 @@ module _ (script untaken : List ℕ) (done : ℕ) (last : Progress) (content : C
       part = λ told. subst (λ (w : List ℕ). IsPartPut before w cut.lines) (sym same) (cut.part told);
     })
 
-    module _ (why : Fault) (other : why ≢ fault.Output) (caused : Caused why) (stops : Leaves script untaken done last content place runs why × (IsTrue sink_tells → written ≡ before)) where
+    module _ (why : Fault) (other : why ≢ fault.Output) (caused : Caused why) (stops : Leaves script untaken done last content trail runs why × (IsTrue sink_tells → written ≡ before)) where
       told_is : (told : Fault) → told ≢ fault.Output → told ≢ fault.OutOfMemory → (told ≡ why) ⊎ (told ≡ fault.OutOfMemory) ⊎ ((told ≡ fault.Output) × rose) → told ≡ why
       told_is told a b kept = ⊎_elim (λ same. same) (⊎_elim (λ memory. absurd (b memory)) (λ out. absurd (a out.0))) kept
 
       -- the whole line was written
-      whole_line : (told : Fault) → told ≡ why → (IsTrue sink_tells → now ≡ written ++ fault_text told) → Leaves script untaken done last content place runs told × (IsTrue sink_tells → now ≡ before ++ fault_text told)
-      whole_line told same whole = (subst (λ (f : Fault). Leaves script untaken done last content place runs f) (sym same) stops.0, λ tells. whole tells ∙ ap (λ (l : List ℕ). l ++ fault_text told) (stops.1 tells))
+      whole_line : (told : Fault) → told ≡ why → (IsTrue sink_tells → now ≡ written ++ fault_text told) → Leaves script untaken done last content trail runs told × (IsTrue sink_tells → now ≡ before ++ fault_text told)
+      whole_line told same whole = (subst (λ (f : Fault). Leaves script untaken done last content trail runs f) (sym same) stops.0, λ tells. whole tells ∙ ap (λ (l : List ℕ). l ++ fault_text told) (stops.1 tells))
 
       ends_told : (told : Fault) → (told ≡ why) ⊎ (told ≡ fault.OutOfMemory) ⊎ ((told ≡ fault.Output) × rose)
           → (IsTrue sink_tells → told ≢ fault.Output → told ≢ fault.OutOfMemory → now ≡ written ++ fault_text told)
           → (IsTrue sink_tells → told ≡ fault.OutOfMemory → IsPut written now (fault_text fault.OutOfMemory) (Caused fault.Output))
           → (IsTrue sink_tells → told ≡ fault.Output → IsPartPut written now (fault_text why))
-          → EndsWith Caused script untaken done last content place runs sink_tells before now told
+          → EndsWith Caused script untaken done last content trail runs sink_tells before now told
       ends_told fault.Output kept whole memory cut = inr (record { why = why; caused = caused; leaves = stops.0; part = λ tells. subst (λ (w : List ℕ). IsPartPut w now (fault_text why)) (stops.1 tells) (cut tells refl) })
       ends_told fault.OutOfMemory kept whole memory cut = (leaves_memory why stops.0, λ tells. subst (λ (w : List ℕ). IsPut w now (fault_text fault.OutOfMemory) (Caused fault.Output)) (stops.1 tells) (memory tells refl))
       ends_told fault.Words kept whole memory cut = whole_line fault.Words (told_is fault.Words (λ e. cc) (λ e. cc) kept) (λ tells. whole tells (λ e. cc) (λ e. cc))
@@ -97,15 +97,15 @@ module _ (script untaken : List ℕ) (done : ℕ) (last : Progress) (content : C
       ends_told (fault.Broken error) kept whole memory cut = whole_line (fault.Broken error) (told_is (fault.Broken error) (λ e. cc) (λ e. cc) kept) (λ tells. whole tells (λ e. cc) (λ e. cc))
       ends_told (fault.Repeated id) kept whole memory cut = whole_line (fault.Repeated id) (told_is (fault.Repeated id) (λ e. cc) (λ e. cc) kept) (λ tells. whole tells (λ e. cc) (λ e. cc))
 
-pub refuses_out : (Caused : Fault → Type 0) (script untaken : List ℕ) (start : Progress) (content : Content) (place : ℕ → Content) (from to : ℕ) (why told : Fault) (runs : List Run) (sink_tells : Bool) (old_written written now : List ℕ) (rose : Type 0) → HasStopped script untaken start content place from to why runs sink_tells old_written written
+pub refuses_out : (Caused : Fault → Type 0) (script untaken : List ℕ) (start : Progress) (content : Content) (trail : ℕ → Content) (from to : ℕ) (why told : Fault) (runs : List Run) (sink_tells : Bool) (old_written written now : List ℕ) (rose : Type 0) → HasStopped script untaken start content trail from to why runs sink_tells old_written written
     → (why ≢ fault.Output → Caused why)
     → (told ≡ why) ⊎ (told ≡ fault.OutOfMemory) ⊎ ((told ≡ fault.Output) × rose)
     → (why ≡ fault.Output → (told ≡ fault.Output) × (now ≡ written))
     → (IsTrue sink_tells → told ≢ fault.Output → told ≢ fault.OutOfMemory → now ≡ written ++ fault_text told)
     → (IsTrue sink_tells → told ≡ fault.OutOfMemory → IsPut written now (fault_text fault.OutOfMemory) (Caused fault.Output))
     → (IsTrue sink_tells → why ≢ fault.Output → told ≡ fault.Output → IsPartPut written now (fault_text why))
-    → HasRefused Caused script untaken start content place from to told runs sink_tells old_written now
-refuses_out Caused script untaken start content place from to why told runs sink_tells old_written written now rose h caused kept output whole memory cut = record {
+    → HasRefused Caused script untaken start content trail from to told runs sink_tells old_written now
+refuses_out Caused script untaken start content trail from to why told runs sink_tells old_written written now rose h caused kept output whole memory cut = record {
   done = h.done;
   last = h.last;
   plays = h.plays;
@@ -115,8 +115,8 @@ refuses_out Caused script untaken start content place from to why told runs sink
       (⊎_elim (λ memory. subst IsUnspent (sym memory) tt) (λ output. subst IsUnspent (sym output.0) tt))
       kept;
   ends = ⊎_elim
-      (λ is. subst (λ (f : Fault). EndsWith Caused script untaken h.done h.last content place runs sink_tells before now f) (sym (output is).0) (ends_cut script untaken h.done h.last content place runs Caused sink_tells before written now rose (subst (StopsWith script untaken h.done h.last content place runs sink_tells before written) is h.stops) (output is).1))
-      (λ other. ends_told script untaken h.done h.last content place runs Caused sink_tells before written now rose why other (caused other) (stops_other script untaken h.done h.last content place runs sink_tells before written why other h.stops) told kept whole memory (λ tells is. cut tells other is))
+      (λ is. subst (λ (f : Fault). EndsWith Caused script untaken h.done h.last content trail runs sink_tells before now f) (sym (output is).0) (ends_cut script untaken h.done h.last content trail runs Caused sink_tells before written now rose (subst (StopsWith script untaken h.done h.last content trail runs sink_tells before written) is h.stops) (output is).1))
+      (λ other. ends_told script untaken h.done h.last content trail runs Caused sink_tells before written now rose why other (caused other) (stops_other script untaken h.done h.last content trail runs sink_tells before written why other h.stops) told kept whole memory (λ tells is. cut tells other is))
       (is_output why);
 }
   where

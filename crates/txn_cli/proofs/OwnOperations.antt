@@ -3,8 +3,8 @@ use Rattle.std.proofs.Common.{◌≡◌, ◌∙◌, true, List, [], ◌∷◌, O
 use Rattle.txn_record.specs.declared.entry.Entry.{Entry}
 use Rattle.txn_record.specs.declared.record.Record.{Record}
 use Rattle.store_trait.specs.Contents.{Content}
-use Rattle.store_trait.specs.Steps.{IsStep}
-use Rattle.store_trait.specs.View.{look, record_at}
+use Rattle.store_laws.specs.Steps.{IsStep}
+use Rattle.store_laws.specs.View.{look, record_at}
 use Rattle.txn_runner.specs.Settling.{IsSubmitted, preparing_record}
 use Rattle.txn_runner.specs.declared.waiting.Waiting.{Waiting}
 use Rattle.txn_cli.specs.Batches.{Every, HasOwnOperations, LeavesRecords, are_recorded}

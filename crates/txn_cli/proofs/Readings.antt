@@ -19,10 +19,10 @@ use Rattle.txn_cli.proofs.Playing.{first_as, lets_next, may_next, of_next, one_m
 use Rattle.txn_cli.proofs.Refused.{refused_alike, left_more}
 
 -- The trail goes on from one moment to the next.
-module _ {S : Type 0} (content : S → Content) (place next_place : ℕ → Content) (from to next_to : ℕ) (script : List ℕ) (start : Progress) (n taken : ℕ) (input : List ℕ) (session : Session S) (sink_tells : Bool) (old_written written : List ℕ)
-    (before : (k : ℕ) → k ≤ to → next_place k ≡ place k) (later : to ≤ next_to) where
+module _ {S : Type 0} (content : S → Content) (trail next_place : ℕ → Content) (from to next_to : ℕ) (script : List ℕ) (start : Progress) (n taken : ℕ) (input : List ℕ) (session : Session S) (sink_tells : Bool) (old_written written : List ℕ)
+    (before : (k : ℕ) → k ≤ to → next_place k ≡ trail k) (later : to ≤ next_to) where
   -- a batch that waited was run by itself, or none was
-  pub comes_first : (b : Bool) (next : Session S) (mid : List ℕ) → HasCome content place from to script start n taken input session sink_tells old_written written
+  pub comes_first : (b : Bool) (next : Session S) (mid : List ℕ) → HasCome content trail from to script start n taken input session sink_tells old_written written
       → (b ≡ true → next_lets_run (next_of n script) ≡ true) → HasDone content (RunsFirst b) session next sink_tells written mid → next_place next_to ≡ content next.store
       → HasCome content next_place from next_to script start n taken input next sink_tells old_written mid
   comes_first b next mid h lets ran here = record {
@@ -33,7 +33,7 @@ module _ {S : Type 0} (content : S → Content) (place next_place : ℕ → Cont
   }
     where
       stood : StandOnTrail next_place from next_to h.plays.plays
-      stood = stand_still place next_place from to next_to h.plays.plays before later h.stand
+      stood = stand_still trail next_place from to next_to h.plays.plays before later h.stand
 
       come : (plays : Plays script start n (at content next (h.printed ++ ran.lines))) × StandOnTrail next_place from next_to plays
       come = ⊎_elim
@@ -42,18 +42,18 @@ module _ {S : Type 0} (content : S → Content) (place next_place : ℕ → Cont
           (first_as b (at content session h.printed) (at content next (h.printed ++ ran.lines)) (ran.did h.printed))
 
   -- the next line was done
-  pub comes_line : (next : Session S) (now line : List ℕ) (new_taken : ℕ) (new_input : List ℕ) → HasCome content place from to script start n taken input session sink_tells old_written written → next_of n script ≡ Ok (Some line)
+  pub comes_line : (next : Session S) (now line : List ℕ) (new_taken : ℕ) (new_input : List ℕ) → HasCome content trail from to script start n taken input session sink_tells old_written written → next_of n script ≡ Ok (Some line)
       → HasDone content (PlaysLine line) session next sink_tells written now → new_input ≡ after_line input → new_taken ≡ taken + line_cost input → next_place next_to ≡ content next.store
       → HasCome content next_place from next_to script start (n + 1) new_taken new_input next sink_tells old_written now
   comes_line next now line new_taken new_input h first does rest cost here = record {
     printed = h.printed ++ does.lines;
     plays = one_more script start n taken input (at content session h.printed) (at content next (h.printed ++ does.lines)) line new_taken new_input h.plays first (does.did h.printed) rest cost;
-    stand = (next_to, stand_still place next_place from to next_to h.plays.plays before later h.stand, omega arith, here);
+    stand = (next_to, stand_still trail next_place from to next_to h.plays.plays before later h.stand, omega arith, here);
     writes = λ told. does.writes told ∙ ap (λ (l : List ℕ). l ++ does.lines) (h.writes told) ∙ append_assoc old_written h.printed does.lines;
   }
 
   -- what comes next was refused, or the output failed
-  pub stops_here : (untaken : List ℕ) (may_run : Bool) (Did : Progress → Progress → Type 0) (next : Session S) (next_store : S → ℕ → Content) (why : Fault) (now : List ℕ) (h : HasCome content place from to script start n taken input session sink_tells old_written written)
+  pub stops_here : (untaken : List ℕ) (may_run : Bool) (Did : Progress → Progress → Type 0) (next : Session S) (next_store : S → ℕ → Content) (why : Fault) (now : List ℕ) (h : HasCome content trail from to script start n taken input session sink_tells old_written written)
       → next_store next.store ≡ next_place
       → (may_run ≡ true → next_may_run (next_of n script) ≡ true) → ((p q : Progress) → Did p q → DoesNext script n p q)
       → IsOfNext script untaken n (at content session h.printed) why → IsUnspent why
@@ -63,7 +63,7 @@ module _ {S : Type 0} (content : S → Content) (place next_place : ℕ → Cont
     done = n;
     last = at content session h.printed;
     plays = h.plays.plays;
-    stand = stand_still place next_place from to next_to h.plays.plays before later h.stand;
+    stand = stand_still trail next_place from to next_to h.plays.plays before later h.stand;
     unspent = unspent;
     stops = by why named stops;
   }
@@ -95,7 +95,7 @@ module _ {S : Type 0} (content : S → Content) (place next_place : ℕ → Cont
       by (fault.Repeated id) named s = other (fault.Repeated id) named s.0 s.1
 
   -- every line was done, and nothing waits
-  pub plays_out : (next : Session S) (now : List ℕ) → HasCome content place from to script start n taken input session sink_tells old_written written → reading taken input ≡ Ok None → next_of n script ≡ Ok None
+  pub plays_out : (next : Session S) (now : List ℕ) → HasCome content trail from to script start n taken input session sink_tells old_written written → reading taken input ≡ Ok None → next_of n script ≡ Ok None
       → HasDone content (RunsWaiting session.batch) session next sink_tells written now → next_place next_to ≡ content next.store → next.batch ≡ []
       → HasPlayed script start (content next.store) next_place from next_to next.runs.items sink_tells old_written now
   plays_out next now h read none ran here cleared = record {
@@ -112,31 +112,31 @@ module _ {S : Type 0} (content : S → Content) (place next_place : ℕ → Cont
 
 -- ---- a line, in two steps
 
-module _ {S : Type 0} (content : S → Content) (place : S → ℕ → Content) (calls : S → ℕ) (from : ℕ) (script : List ℕ) (start : Progress) (n taken : ℕ) (input line : List ℕ) (session next : Session S) (sink_tells : Bool) (old_written written now : List ℕ)
-    (before : (k : ℕ) → k ≤ calls session.store → place next.store k ≡ place session.store k) (later : calls session.store ≤ calls next.store)
-    (h : HasCome content (place session.store) from (calls session.store) script start n taken input session sink_tells old_written written) (first : next_of n script ≡ Ok (Some line)) where
-  between_come : (between : Session S) (mid : List ℕ) → HasRunFirst content place calls line session between next sink_tells written mid
-      → HasCome content (place next.store) from (calls between.store) script start n taken input between sink_tells old_written mid
+module _ {S : Type 0} (content : S → Content) (trail : S → ℕ → Content) (calls : S → ℕ) (from : ℕ) (script : List ℕ) (start : Progress) (n taken : ℕ) (input line : List ℕ) (session next : Session S) (sink_tells : Bool) (old_written written now : List ℕ)
+    (before : (k : ℕ) → k ≤ calls session.store → trail next.store k ≡ trail session.store k) (later : calls session.store ≤ calls next.store)
+    (h : HasCome content (trail session.store) from (calls session.store) script start n taken input session sink_tells old_written written) (first : next_of n script ≡ Ok (Some line)) where
+  between_come : (between : Session S) (mid : List ℕ) → HasRunFirst content trail calls line session between next sink_tells written mid
+      → HasCome content (trail next.store) from (calls between.store) script start n taken input between sink_tells old_written mid
   between_come between mid ran =
-      comes_first content (place session.store) (place next.store) from (calls session.store) (calls between.store) script start n taken input session sink_tells old_written written before ran.since
+      comes_first content (trail session.store) (trail next.store) from (calls session.store) (calls between.store) script start n taken input session sink_tells old_written written before ran.since
       (line_lets_run (line_in line)) between mid h (λ lets. lets_next n script line first lets) ran.ran ran.stands
 
-  pub comes_further : (new_taken : ℕ) (new_input : List ℕ) → HasDoneLine content place calls line session next sink_tells written now → new_input ≡ after_line input → new_taken ≡ taken + line_cost input → place next.store (calls next.store) ≡ content next.store
-      → HasCome content (place next.store) from (calls next.store) script start (n + 1) new_taken new_input next sink_tells old_written now
+  pub comes_further : (new_taken : ℕ) (new_input : List ℕ) → HasDoneLine content trail calls line session next sink_tells written now → new_input ≡ after_line input → new_taken ≡ taken + line_cost input → trail next.store (calls next.store) ≡ content next.store
+      → HasCome content (trail next.store) from (calls next.store) script start (n + 1) new_taken new_input next sink_tells old_written now
   comes_further new_taken new_input d rest cost here =
-      comes_line content (place next.store) (place next.store) from (calls d.between.store) (calls next.store) script start n taken input d.between sink_tells old_written d.mid (λ k low. refl) d.first.later
+      comes_line content (trail next.store) (trail next.store) from (calls d.between.store) (calls next.store) script start n taken input d.between sink_tells old_written d.mid (λ k low. refl) d.first.later
       next now line new_taken new_input (between_come d.between d.mid d.first) first d.done rest cost here
 
-  pub stops_line : (untaken : List ℕ) (why : Fault) → IsOfStatement why → IsUnspent why → HasStoppedLine content place calls line (n + 1) session next sink_tells written now why
-      → HasStopped script untaken start (content next.store) (place next.store) from (calls next.store) why next.runs.items sink_tells old_written now
+  pub stops_line : (untaken : List ℕ) (why : Fault) → IsOfStatement why → IsUnspent why → HasStoppedLine content trail calls line (n + 1) session next sink_tells written now why
+      → HasStopped script untaken start (content next.store) (trail next.store) from (calls next.store) why next.runs.items sink_tells old_written now
   stops_line untaken why kind unspent (HasStoppedLine.First refused stops) =
-      stops_here content (place session.store) (place next.store) from (calls session.store) (calls next.store) script start n taken input session sink_tells old_written written before later
-      untaken (line_may_run (line_in line)) (RunsBefore (line_lets_run (line_in line))) next place why now h refl (λ may. may_next n script line first may)
+      stops_here content (trail session.store) (trail next.store) from (calls session.store) (calls next.store) script start n taken input session sink_tells old_written written before later
+      untaken (line_may_run (line_in line)) (RunsBefore (line_lets_run (line_in line))) next trail why now h refl (λ may. may_next n script line first may)
       (λ p q ran. DoesNext.Batch (lets_next n script line first ran.0) ran.1)
       (of_next script untaken n line (at content session h.printed) why first (refused_alike content session [] h.printed line (n + 1) why refused) kind) unspent stops
   stops_line untaken why kind unspent (HasStoppedLine.Then between mid ran refused stops) =
       let come = between_come between mid ran in
-      stops_here content (place next.store) (place next.store) from (calls between.store) (calls next.store) script start n taken input between sink_tells old_written mid (λ k low. refl) ran.later
-      untaken (line_may_run (line_in line)) (PlaysLine line) next place why now come refl (λ may. may_next n script line first may)
+      stops_here content (trail next.store) (trail next.store) from (calls between.store) (calls next.store) script start n taken input between sink_tells old_written mid (λ k low. refl) ran.later
+      untaken (line_may_run (line_in line)) (PlaysLine line) next trail why now come refl (λ may. may_next n script line first may)
       (λ p q does. DoesNext.Line line first does)
       (of_next script untaken n line (at content between come.printed) why first (refused_alike content between [] come.printed line (n + 1) why refused) kind) unspent stops

@@ -66,13 +66,13 @@ misread_line content session line number why f read is = ⊎_elim
     is
 
 -- where a batch may be on its way, it may be where more is allowed
-pub left_more : (a b : Bool) (old : Content) (waiting : List Waiting) (before : List Run) (new : Content) (place : ℕ → Content) (after : List Run) (f : Fault) → (a ≡ true → b ≡ true) → HasLeft a old waiting before new place after f → HasLeft b old waiting before new place after f
-left_more a b old waiting before new place after fault.Output more h = elim h [ ]
-left_more a b old waiting before new place after fault.Words more h = h
-left_more a b old waiting before new place after (fault.Line number text) more h = h
-left_more a b old waiting before new place after fault.Input more h = h
-left_more a b old waiting before new place after fault.Store more h = ⊎_elim inl (λ begun. inr (more begun.0, begun.1, begun.2)) h
-left_more a b old waiting before new place after fault.OutOfMemory more h = ⊎_elim inl (λ begun. inr (more begun.0, begun.1)) h
-left_more a b old waiting before new place after (fault.Spent e) more h = ⊎_elim inl (λ begun. inr (more begun.0, begun.1, begun.2)) h
-left_more a b old waiting before new place after (fault.Broken e) more h = ⊎_elim inl (λ begun. inr (more begun.0, begun.1, begun.2)) h
-left_more a b old waiting before new place after (fault.Repeated id) more h = ⊎_elim inl (λ begun. inr (more begun.0, begun.1, begun.2)) h
+pub left_more : (a b : Bool) (old : Content) (waiting : List Waiting) (before : List Run) (new : Content) (trail : ℕ → Content) (after : List Run) (f : Fault) → (a ≡ true → b ≡ true) → HasLeft a old waiting before new trail after f → HasLeft b old waiting before new trail after f
+left_more a b old waiting before new trail after fault.Output more h = elim h [ ]
+left_more a b old waiting before new trail after fault.Words more h = h
+left_more a b old waiting before new trail after (fault.Line number text) more h = h
+left_more a b old waiting before new trail after fault.Input more h = h
+left_more a b old waiting before new trail after fault.Store more h = ⊎_elim inl (λ begun. inr (more begun.0, begun.1, begun.2)) h
+left_more a b old waiting before new trail after fault.OutOfMemory more h = ⊎_elim inl (λ begun. inr (more begun.0, begun.1)) h
+left_more a b old waiting before new trail after (fault.Spent e) more h = ⊎_elim inl (λ begun. inr (more begun.0, begun.1, begun.2)) h
+left_more a b old waiting before new trail after (fault.Broken e) more h = ⊎_elim inl (λ begun. inr (more begun.0, begun.1, begun.2)) h
+left_more a b old waiting before new trail after (fault.Repeated id) more h = ⊎_elim inl (λ begun. inr (more begun.0, begun.1, begun.2)) h

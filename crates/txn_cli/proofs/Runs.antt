@@ -4,8 +4,8 @@ use Rattle.txn_key.specs.Documents.{Docs}
 use Rattle.txn_record.specs.Orders.{after, legal}
 use Rattle.txn_record.specs.declared.entry.Entry.{Entry}
 use Rattle.store_trait.specs.Contents.{Content}
-use Rattle.store_trait.specs.Meaning.{meaning}
-use Rattle.store_trait.specs.Soundness.{IsSound}
+use Rattle.store_laws.specs.Meaning.{meaning}
+use Rattle.store_laws.specs.Soundness.{IsSound}
 use Rattle.store_laws.proofs.TrailFaithful.{trail_faithful, means_at}
 use Rattle.store_laws.proofs.TrailLegal.{trail_legal}
 use Rattle.txn_runner.specs.Running.{HasRun}
@@ -14,17 +14,17 @@ use Rattle.txn_cli.specs.declared.done.Run.{Run}
 use Rattle.txn_runner.proofs.Running.{run_same, run_reads}
 
 -- what the store means at the end of a run
-pub run_means : (place : ℕ → Content) (mark n : ℕ) (base : Docs) (order : List Entry) → HasRun place mark n base order → meaning (place n) ≡ after base order
-run_means place mark n base order h =
-    ap (λ (k : ℕ). meaning (place k)) h.counted ∙ means_at place mark h.made base order h.trail h.made (omega arith) ∙ ap (after base) (sym h.trail.order_is)
+pub run_means : (trail : ℕ → Content) (mark n : ℕ) (base : Docs) (order : List Entry) → HasRun trail mark n base order → meaning (trail n) ≡ after base order
+run_means trail mark n base order h =
+    ap (λ (k : ℕ). meaning (trail k)) h.counted ∙ means_at trail mark h.made base order h.told h.made (omega arith) ∙ ap (after base) (sym h.told.order_is)
 
-pub run_legal : (place : ℕ → Content) (mark n : ℕ) (base : Docs) (order : List Entry) → HasRun place mark n base order → legal base order ≡ true
-run_legal place mark n base order h = trail_legal place mark h.made base order h.trail
+pub run_legal : (trail : ℕ → Content) (mark n : ℕ) (base : Docs) (order : List Entry) → HasRun trail mark n base order → legal base order ≡ true
+run_legal trail mark n base order h = trail_legal trail mark h.made base order h.told
 
 -- marks and ends stand in order
-end_within : (place : ℕ → Content) (runs : List Run) (last : ℕ) → RunsGoOn place runs last → end_of runs last ≤ last
-end_within place [] last h = omega arith
-end_within place (run ∷ runs) last h = omega (arith, end_within place runs last h.2, h.0.counted)
+end_within : (trail : ℕ → Content) (runs : List Run) (last : ℕ) → RunsGoOn trail runs last → end_of runs last ≤ last
+end_within trail [] last h = omega arith
+end_within trail (run ∷ runs) last h = omega (arith, end_within trail runs last h.2, h.0.counted)
 
 pub runs_same : (p q : ℕ → Content) (runs : List Run) (last : ℕ) → ((k : ℕ) → k ≤ last → q k ≡ p k) → RunsGoOn p runs last → RunsGoOn q runs last
 runs_same p q [] last same h = tt
@@ -43,17 +43,17 @@ runs_add q [] run m n h mark base has = (has, tt, tt)
 runs_add q (last ∷ []) run m n h mark base has = (subst (λ (k : ℕ). HasRun q last.mark k last.base last.order) (sym mark) h.0, base ∙ run_means q last.mark m last.base last.order h.0, (has, tt, tt))
 runs_add q (first ∷ next ∷ runs) run m n h mark base has = (h.0, h.1, runs_add q (next ∷ runs) run m n h.2 mark base has)
 
-pub runs_faithful : (place : ℕ → Content) (runs : List Run) (last : ℕ) → RunsGoOn place runs last → AreFaithful place runs last
-runs_faithful place [] last h = tt
-runs_faithful place (run ∷ runs) last h = (
-  record { made = h.0.made; counted = h.0.counted; faithful = trail_faithful place run.mark h.0.made run.base run.order h.0.trail; legal = trail_legal place run.mark h.0.made run.base run.order h.0.trail },
+pub runs_faithful : (trail : ℕ → Content) (runs : List Run) (last : ℕ) → RunsGoOn trail runs last → AreFaithful trail runs last
+runs_faithful trail [] last h = tt
+runs_faithful trail (run ∷ runs) last h = (
+  record { made = h.0.made; counted = h.0.counted; faithful = trail_faithful trail run.mark h.0.made run.base run.order h.0.told; legal = trail_legal trail run.mark h.0.made run.base run.order h.0.told },
   h.1,
-  runs_faithful place runs last h.2,
+  runs_faithful trail runs last h.2,
 )
 
-pub none_go_on : (place : ℕ → Content) (runs : List Run) (last : ℕ) → runs ≡ [] → RunsGoOn place runs last
-none_go_on place runs last none = subst (λ (rs : List Run). RunsGoOn place rs last) (sym none) tt
+pub none_go_on : (trail : ℕ → Content) (runs : List Run) (last : ℕ) → runs ≡ [] → RunsGoOn trail runs last
+none_go_on trail runs last none = subst (λ (rs : List Run). RunsGoOn trail rs last) (sym none) tt
 
-pub held_or_none : (place : ℕ → Content) (runs : List Run) (last : ℕ) (was : Bool) → (IsTrue was → RunsGoOn place runs last) → (was ≡ false → runs ≡ []) → RunsGoOn place runs last
-held_or_none place runs last true held none = held refl
-held_or_none place runs last false held none = none_go_on place runs last (none refl)
+pub held_or_none : (trail : ℕ → Content) (runs : List Run) (last : ℕ) (was : Bool) → (IsTrue was → RunsGoOn trail runs last) → (was ≡ false → runs ≡ []) → RunsGoOn trail runs last
+held_or_none trail runs last true held none = held refl
+held_or_none trail runs last false held none = none_go_on trail runs last (none refl)

@@ -9,12 +9,12 @@ use Rattle.doc_value.specs.declared.value.Value.{Value}
 use Rattle.txn_key.specs.declared.id.TxnId.{TxnId}
 use Rattle.txn_key.specs.declared.key.Key.{Key}
 use Rattle.txn_record.specs.declared.op.Op.{Op}
-use Rattle.store_trait.specs.Calls.{CallsGoOn}
+use Rattle.store_trait.specs.Stores.{CallsGoOn}
 use Rattle.store_trait.specs.Cells.{as_record}
 use Rattle.store_trait.specs.Contents.{Content}
 use Rattle.store_trait.specs.Edits.{hit, edited}
 use Rattle.store_trait.specs.Names.{same_id}
-use Rattle.store_trait.specs.View.{record_at}
+use Rattle.store_laws.specs.View.{record_at}
 use Rattle.store_trait.specs.declared.cell.Cell.{Cell}
 use Rattle.store_trait.specs.declared.cell.Cell.TheVariants as cell
 use Rattle.store_trait.specs.declared.edit.Edit.TheVariants as edit
@@ -116,12 +116,12 @@ place_calm c key body calm = by (is_some (hit (edit.Place (cell.Doc (new_doc bod
 
 -- ---- what each statement keeps
 
-module _ {S : Type 0} (content : S → Content) (place : S → ℕ → Content) (calls : S → ℕ) (old new : Session S) (h : IsHeld content place calls old) where
+module _ {S : Type 0} (content : S → Content) (trail : S → ℕ → Content) (calls : S → ℕ) (old new : Session S) (h : IsHeld content trail calls old) where
   -- before anything waits there is no Run
-  pub no_run_yet : old.begun ≡ false → new.runs.items ≡ old.runs.items → RunsGoOn (place new.store) new.runs.items (calls new.store)
-  no_run_yet unbegun runs = subst (λ (rs : List Run). RunsGoOn (place new.store) rs (calls new.store)) (sym (runs ∙ (h.unbegun unbegun).1)) tt
+  pub no_run_yet : old.begun ≡ false → new.runs.items ≡ old.runs.items → RunsGoOn (trail new.store) new.runs.items (calls new.store)
+  no_run_yet unbegun runs = subst (λ (rs : List Run). RunsGoOn (trail new.store) rs (calls new.store)) (sym (runs ∙ (h.unbegun unbegun).1)) tt
 
-  pub placing_held : old.begun ≡ false → new.begun ≡ old.begun → new.batch ≡ old.batch → new.runs.items ≡ old.runs.items → IsCalm (content new.store) → IsHeld content place calls new
+  pub placing_held : old.begun ≡ false → new.begun ≡ old.begun → new.batch ≡ old.batch → new.runs.items ≡ old.runs.items → IsCalm (content new.store) → IsHeld content trail calls new
   placing_held unbegun begun batch runs calm =
       let none = h.unbegun unbegun in
       record {
@@ -130,15 +130,15 @@ module _ {S : Type 0} (content : S → Content) (place : S → ℕ → Content) 
         unbegun = λ e. (batch ∙ none.0, runs ∙ none.1);
       }
 
-  pub reading_runs : (tells : Bool) (faults : S → ℕ) → IsTrue tells → OnlyReads content place calls old.store new.store → CallsGoOn tells content place calls faults old.store new.store → new.runs.items ≡ old.runs.items
-      → RunsGoOn (place new.store) new.runs.items (calls new.store)
+  pub reading_runs : (tells : Bool) (faults : S → ℕ) → IsTrue tells → OnlyReads content trail calls old.store new.store → CallsGoOn tells content trail calls faults old.store new.store → new.runs.items ≡ old.runs.items
+      → RunsGoOn (trail new.store) new.runs.items (calls new.store)
   reading_runs tells faults told reads on runs =
-      subst (λ (rs : List Run). RunsGoOn (place new.store) rs (calls new.store)) (sym runs) (runs_only_read tells content place calls faults old.store new.store old.runs.items reads on told h.may_run.calm.sound h.runs)
+      subst (λ (rs : List Run). RunsGoOn (trail new.store) rs (calls new.store)) (sym runs) (runs_only_read tells content trail calls faults old.store new.store old.runs.items reads on told h.may_run.calm.sound h.runs)
 
-  pub submitting_held : (tells : Bool) (faults : S → ℕ) (txn : Waiting) → IsTrue tells → OnlyReads content place calls old.store new.store → CallsGoOn tells content place calls faults old.store new.store
+  pub submitting_held : (tells : Bool) (faults : S → ℕ) (txn : Waiting) → IsTrue tells → OnlyReads content trail calls old.store new.store → CallsGoOn tells content trail calls faults old.store new.store
       → new.runs.items ≡ old.runs.items → new.batch ≡ old.batch ++ txn ∷ [] → new.begun ≡ true
       → waits old.batch txn.id ≡ false → has_record (content old.store) txn.id ≡ false → list_all (λ (op : Op). has_document (content old.store) op.key) txn.ops ≡ true
-      → IsHeld content place calls new
+      → IsHeld content trail calls new
   submitting_held tells faults txn told reads on runs batch begun none fresh docs = record {
     may_run = subst (MayRun (content new.store)) (sym batch) (subst (λ (c : Content). MayRun c (old.batch ++ txn ∷ [])) (sym reads.same) (one_more_waits (content old.store) old.batch txn h.may_run none fresh docs));
     runs = reading_runs tells faults told reads on runs;
@@ -149,8 +149,8 @@ module _ {S : Type 0} (content : S → Content) (place : S → ℕ → Content) 
       true_false p q = cc
 
   -- nothing but reads
-  pub showing_held : (tells : Bool) (faults : S → ℕ) → IsTrue tells → OnlyReads content place calls old.store new.store → CallsGoOn tells content place calls faults old.store new.store
-      → new.runs.items ≡ old.runs.items → new.batch ≡ old.batch → new.begun ≡ true → IsHeld content place calls new
+  pub showing_held : (tells : Bool) (faults : S → ℕ) → IsTrue tells → OnlyReads content trail calls old.store new.store → CallsGoOn tells content trail calls faults old.store new.store
+      → new.runs.items ≡ old.runs.items → new.batch ≡ old.batch → new.begun ≡ true → IsHeld content trail calls new
   showing_held tells faults told reads on runs batch begun = record {
     may_run = subst (MayRun (content new.store)) (sym batch) (subst (λ (c : Content). MayRun c old.batch) (sym reads.same) h.may_run);
     runs = reading_runs tells faults told reads on runs;

@@ -1,7 +1,7 @@
 -- What a statement that shows does, and what it prints.
 use Rattle.std.proofs.Common.{◌≡◌, ℕ, true, List, [], ◌++◌, sym, ap, ◌∙◌}
 use Rattle.store_trait.specs.Contents.{Content}
-use Rattle.store_trait.specs.Meaning.{meaning, bodies}
+use Rattle.store_laws.specs.Meaning.{meaning, bodies}
 use Rattle.txn_cli.specs.Play.{Does}
 use Rattle.txn_cli.specs.Sessions.{at}
 use Rattle.txn_cli.specs.Texts.{documents_text}

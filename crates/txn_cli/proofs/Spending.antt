@@ -10,7 +10,7 @@ use Rattle.store_trait.proofs.NameOrder.{name_cmp_total}
 use Rattle.store_trait.specs.Cells.{as_counter, as_doc}
 use Rattle.store_trait.specs.Contents.{Content}
 use Rattle.store_trait.specs.Names.{name_cmp}
-use Rattle.store_trait.specs.View.{counter, doc_at}
+use Rattle.store_laws.specs.View.{counter, doc_at}
 use Rattle.store_trait.specs.declared.cell.Cell.{Cell}
 use Rattle.store_trait.specs.declared.name.Name.TheVariants as name
 use Rattle.txn_runner.specs.declared.waiting.Waiting.{Waiting}

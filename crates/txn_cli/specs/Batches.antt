@@ -6,11 +6,11 @@ use Rattle.txn_key.specs.declared.key.Key.{Key}
 use Rattle.txn_record.specs.declared.entry.Entry.{Entry}
 use Rattle.txn_record.specs.declared.entry.Outcome.{Outcome}
 use Rattle.txn_record.specs.declared.record.Record.{Record}
-use Rattle.store_trait.specs.Calls.{CallsGoOn}
+use Rattle.store_trait.specs.Stores.{CallsGoOn}
 use Rattle.store_trait.specs.Contents.{Content}
 use Rattle.store_trait.specs.Names.{same_id}
-use Rattle.store_trait.specs.Steps.{IsStep}
-use Rattle.store_trait.specs.View.{record_at}
+use Rattle.store_laws.specs.Steps.{IsStep}
+use Rattle.store_laws.specs.View.{record_at}
 use Rattle.store_laws.specs.Trail.{IsRecorded}
 use Rattle.txn_runner.specs.Built.{is_built}
 use Rattle.txn_runner.specs.Calm.{IsCalm}
@@ -81,8 +81,8 @@ pub record KeepsAllBut (old new : Content) (waiting : List Waiting) : Type 0 whe
   pub docs : (key : Key) → has_document old key ≡ true → has_document new key ≡ true
 
 -- Calls for the transactions of a batch: any run goes on with them, by decisions on these alone.
-pub record WorksOnBatch {S : Type 0} (content : S → Content) (place : S → ℕ → Content) (calls : S → ℕ) (old new : S) (before after : List Entry) (waiting : List Waiting) : Type 0 where
-  pub run : RunGoesOn place calls old new before after
+pub record WorksOnBatch {S : Type 0} (content : S → Content) (trail : S → ℕ → Content) (calls : S → ℕ) (old new : S) (before after : List Entry) (waiting : List Waiting) : Type 0 where
+  pub run : RunGoesOn trail calls old new before after
   pub step : IsStep (content old) (content new)
   pub others : KeepsAllBut (content old) (content new) waiting
   pub decided : list_all (λ entry. waits waiting entry.id) before ≡ true → list_all (λ entry. waits waiting entry.id) after ≡ true
@@ -120,8 +120,8 @@ pub record IsDoneWith (c : Content) (waiting : List Waiting) (lines : List ℕ) 
 abbrev pub KeepsPresent : Content → Content → Type 0
 KeepsPresent old new = (id : TxnId) (rec : Record) → record_at old id ≡ Some rec → record_at new id ≡ Some rec
 
-pub record IsSubmitting {S : Type 0} (content : S → Content) (place : S → ℕ → Content) (calls : S → ℕ) (old now : S) (waiting left : List Waiting) : Type 0 where
-  pub works : (order : List Entry) → WorksOnBatch content place calls old now order order waiting
+pub record IsSubmitting {S : Type 0} (content : S → Content) (trail : S → ℕ → Content) (calls : S → ℕ) (old now : S) (waiting left : List Waiting) : Type 0 where
+  pub works : (order : List Entry) → WorksOnBatch content trail calls old now order order waiting
   pub uses : Uses (content old) (content now) 0 0 0 0
   pub calm : IsCalm (content now)
   pub may_begin : Every (MayBegin (content now)) left
@@ -130,8 +130,8 @@ pub record IsSubmitting {S : Type 0} (content : S → Content) (place : S → �
   pub done : (d : Content) → KeepsPresent (content now) d → Every (IsSubmitted d) left → Every (IsSubmitted d) waiting
   pub own : (d : Content) → KeepsPresent (content now) d → Every (HasOwnOperations d) left → Every (HasOwnOperations d) waiting
 
-pub record IsSettling {S : Type 0} (content : S → Content) (place : S → ℕ → Content) (calls : S → ℕ) (old now : S) (before order : List Entry) (waiting left : List Waiting) (lines : List ℕ) : Type 0 where
-  pub works : WorksOnBatch content place calls old now before order waiting
+pub record IsSettling {S : Type 0} (content : S → Content) (trail : S → ℕ → Content) (calls : S → ℕ) (old now : S) (before order : List Entry) (waiting left : List Waiting) (lines : List ℕ) : Type 0 where
+  pub works : WorksOnBatch content trail calls old now before order waiting
   pub uses : Uses (content old) (content now) (length waiting) (length waiting) (length left) (length left)
   pub begun : IsBegun (content now) left
   pub within : Every (λ txn. waits waiting txn.id ≡ true) left
@@ -139,11 +139,11 @@ pub record IsSettling {S : Type 0} (content : S → Content) (place : S → ℕ 
   pub text : (d : Content) → IsStep (content now) d → batch_text d waiting ≡ lines ++ batch_text d left
 
 -- the two loops, over a store that may tell nothing
-pub record IsSubmittingBatch {S : Type 0} (tells : Bool) (content : S → Content) (place : S → ℕ → Content) (calls faults : S → ℕ) (old now : S) (waiting left : List Waiting) : Type 0 where
-  pub told : IsTrue tells → IsSubmitting content place calls old now waiting left
-  pub made : CallsGoOn tells content place calls faults old now
+pub record IsSubmittingBatch {S : Type 0} (tells : Bool) (content : S → Content) (trail : S → ℕ → Content) (calls faults : S → ℕ) (old now : S) (waiting left : List Waiting) : Type 0 where
+  pub told : IsTrue tells → IsSubmitting content trail calls old now waiting left
+  pub made : CallsGoOn tells content trail calls faults old now
 
-pub record IsSettlingBatch {S : Type 0} (tells : Bool) (content : S → Content) (place : S → ℕ → Content) (calls faults : S → ℕ) (old now : S) (before order : List Entry) (waiting left : List Waiting) (lines : List ℕ) : Type 0 where
-  pub told : IsTrue tells → IsSettling content place calls old now before order waiting left lines
-  pub made : CallsGoOn tells content place calls faults old now
+pub record IsSettlingBatch {S : Type 0} (tells : Bool) (content : S → Content) (trail : S → ℕ → Content) (calls faults : S → ℕ) (old now : S) (before order : List Entry) (waiting left : List Waiting) (lines : List ℕ) : Type 0 where
+  pub told : IsTrue tells → IsSettling content trail calls old now before order waiting left lines
+  pub made : CallsGoOn tells content trail calls faults old now
   pub built : are_built left ≡ true

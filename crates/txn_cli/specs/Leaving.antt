@@ -3,8 +3,8 @@ use Rattle.std.specs.Prelude.{◌≡◌, ◌+◌, ◌⊎◌, ℕ, Bool, true, fa
 use Rattle.std.specs.List.{list_all}
 use Rattle.txn_key.specs.declared.id.TxnId.{TxnId}
 use Rattle.store_trait.specs.Contents.{Content}
-use Rattle.store_trait.specs.Meaning.{meaning}
-use Rattle.store_trait.specs.View.{record_at}
+use Rattle.store_laws.specs.Meaning.{meaning}
+use Rattle.store_laws.specs.View.{record_at}
 use Rattle.txn_io.specs.Lines.{IsPartTaken}
 use Rattle.txn_io.specs.declared.lines.LineFault.{LineFault}
 use Rattle.txn_script.specs.Statements.{line_in}
@@ -28,10 +28,10 @@ pub record Stays (old : Content) (before : List Run) (new : Content) (after : Li
 -- A batch is on its way: there is one Run more, which begins with what the store then held, and has decided
 -- none but the transactions of the batch, and none before each of them has its record. Their records have
 -- their operations; no other record was touched, and no more was used than the batch may use.
-pub record HasBegun (old : Content) (waiting : List Waiting) (before : List Run) (new : Content) (place : ℕ → Content) (after : List Run) : Type 0 where
+pub record HasBegun (old : Content) (waiting : List Waiting) (before : List Run) (new : Content) (trail : ℕ → Content) (after : List Run) : Type 0 where
   pub run : Run
   pub kept : after ≡ before ++ run ∷ []
-  pub opens : place run.mark ≡ old
+  pub opens : trail run.mark ≡ old
   pub base : run.base ≡ meaning old
   pub only : list_all (λ entry. waits waiting entry.id) run.order ≡ true
   pub others : (id : TxnId) → waits waiting id ≡ false → record_at new id ≡ record_at old id
@@ -74,12 +74,12 @@ next_may_run (Err _) = false
 -- any other one, unless a batch was on its way, and unfinished: memory alone may be wanting behind one that
 -- was finished. (By the output: see where it is said what was written.)
 abbrev pub HasLeft : Bool → Content → List Waiting → List Run → Content → (ℕ → Content) → List Run → Fault → Type 0
-HasLeft may_run old waiting before new place after (fault.Line _ _) = Stays old before new after
-HasLeft may_run old waiting before new place after fault.Words = Stays old before new after
-HasLeft may_run old waiting before new place after fault.Input = Stays old before new after
-HasLeft may_run old waiting before new place after fault.Output = ⊥
-HasLeft may_run old waiting before new place after fault.OutOfMemory = Stays old before new after ⊎ ((may_run ≡ true) × HasBegun old waiting before new place after)
-HasLeft may_run old waiting before new place after _ = Stays old before new after ⊎ ((may_run ≡ true) × HasBegun old waiting before new place after × IsUnfinished new waiting)
+HasLeft may_run old waiting before new trail after (fault.Line _ _) = Stays old before new after
+HasLeft may_run old waiting before new trail after fault.Words = Stays old before new after
+HasLeft may_run old waiting before new trail after fault.Input = Stays old before new after
+HasLeft may_run old waiting before new trail after fault.Output = ⊥
+HasLeft may_run old waiting before new trail after fault.OutOfMemory = Stays old before new after ⊎ ((may_run ≡ true) × HasBegun old waiting before new trail after)
+HasLeft may_run old waiting before new trail after _ = Stays old before new after ⊎ ((may_run ≡ true) × HasBegun old waiting before new trail after × IsUnfinished new waiting)
 
 -- The refusal of a line names the next one, and the text by which it is refused there; bad words come
 -- before any line. Where the input failed, no more than a part of the next line was taken: each line that
@@ -92,6 +92,6 @@ IsOfNext script untaken n p _ = Unit {0}
 
 -- A refusal comes behind the first n lines of a script, of which these bytes weren't taken, and this is what
 -- it leaves.
-pub record Leaves (script untaken : List ℕ) (n : ℕ) (p : Progress) (new : Content) (place : ℕ → Content) (after : List Run) (why : Fault) : Type 0 where
+pub record Leaves (script untaken : List ℕ) (n : ℕ) (p : Progress) (new : Content) (trail : ℕ → Content) (after : List Run) (why : Fault) : Type 0 where
   pub next : IsOfNext script untaken n p why
-  pub left : HasLeft (next_may_run (next_of n script)) p.content p.waiting p.runs new place after why
+  pub left : HasLeft (next_may_run (next_of n script)) p.content p.waiting p.runs new trail after why

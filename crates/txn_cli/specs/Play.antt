@@ -5,9 +5,9 @@ use Rattle.doc_value.specs.declared.value.Value.{Value}
 use Rattle.txn_key.specs.declared.id.TxnId.{TxnId}
 use Rattle.txn_record.specs.Orders.{after, legal}
 use Rattle.store_trait.specs.Contents.{Content, first_past}
-use Rattle.store_trait.specs.Meaning.{meaning}
-use Rattle.store_trait.specs.Soundness.{IsSound}
-use Rattle.store_trait.specs.View.{record_at}
+use Rattle.store_laws.specs.Meaning.{meaning}
+use Rattle.store_laws.specs.Soundness.{IsSound}
+use Rattle.store_laws.specs.View.{record_at}
 use Rattle.store_trait.specs.declared.cell.Cell.{Cell}
 use Rattle.store_trait.specs.declared.cell.Cell.TheVariants as cell
 use Rattle.store_trait.specs.declared.name.Name.TheVariants as name
@@ -172,9 +172,9 @@ pub data DoesNext (script : List ℕ) (n : ℕ) (p q : Progress) : Type 0 where
 -- After each line that was done, and each batch that ran by itself, what the store held stands at a place
 -- of the trail. These places never fall, from that of the opening content on.
 abbrev pub StandOnTrail : {script : List ℕ} {opening : Progress} {n : ℕ} {p : Progress} → (ℕ → Content) → ℕ → ℕ → Plays script opening n p → Type 0
-StandOnTrail place from to Plays.Opens = from ≤ to
-StandOnTrail place from to (Plays.Line n line p q plays next did) = (at : ℕ) × StandOnTrail place from at plays × (at ≤ to) × (place at ≡ q.content)
-StandOnTrail place from to (Plays.Batch n p q plays lets ran) = (at : ℕ) × StandOnTrail place from at plays × (at ≤ to) × (place at ≡ q.content)
+StandOnTrail trail from to Plays.Opens = from ≤ to
+StandOnTrail trail from to (Plays.Line n line p q plays next did) = (at : ℕ) × StandOnTrail trail from at plays × (at ≤ to) × (trail at ≡ q.content)
+StandOnTrail trail from to (Plays.Batch n p q plays lets ran) = (at : ℕ) × StandOnTrail trail from at plays × (at ≤ to) × (trail at ≡ q.content)
 
 -- every line of a script was done, and nothing waits any more
 pub record IsPlayed (script : List ℕ) (opening end : Progress) : Type 0 where

@@ -6,7 +6,7 @@ use Rattle.txn_cli.specs.declared.fault.Fault.TheVariants as fault
 use Rattle.store_trait.specs.Calls.{Exchange}
 use Rattle.store_trait.specs.Contents.{Content}
 use Rattle.store_trait.specs.Edits.{nonce_limit}
-use Rattle.store_trait.specs.View.{counter}
+use Rattle.store_laws.specs.View.{counter}
 use Rattle.txn_runner.specs.Causes.{LastShows, ShowsClash, ShowsNoNonce, ShowsRepeated, ShowsSpentRevno}
 use Rattle.txn_runner.specs.Settling.{IsRevnoSpent}
 use Rattle.txn_runner.specs.declared.error.StepError.{StepError}

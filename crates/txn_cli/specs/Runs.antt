@@ -2,7 +2,7 @@
 use Rattle.std.specs.Prelude.{◌≡◌, ◌+◌, true, ℕ, List, [], ◌∷◌}
 use Rattle.txn_record.specs.Orders.{after, legal}
 use Rattle.store_trait.specs.Contents.{Content}
-use Rattle.store_trait.specs.History.{IsFaithful}
+use Rattle.store_laws.specs.History.{IsFaithful}
 use Rattle.txn_runner.specs.Running.{HasRun}
 use Rattle.txn_cli.specs.declared.done.Run.{Run}
 
@@ -24,15 +24,15 @@ EachRun P (run ∷ runs) last = P run (end_of runs last) × LeadsOn run runs × 
 -- From its mark to its end the trail is faithful to the Run: every place is sound and means the base
 -- after the decisions so far, one whole transaction after another; and the order is legal: each applied
 -- transaction's tests held at its place, each aborted one's failed.
-pub record IsFaithfulRun (place : ℕ → Content) (run : Run) (end : ℕ) : Type 0 where
+pub record IsFaithfulRun (trail : ℕ → Content) (run : Run) (end : ℕ) : Type 0 where
   pub made : ℕ
   pub counted : end ≡ run.mark + made
-  pub faithful : IsFaithful place run.mark made run.base run.order
+  pub faithful : IsFaithful trail run.mark made run.base run.order
   pub legal : legal run.base run.order ≡ true
 
 abbrev pub AreFaithful : (ℕ → Content) → List Run → ℕ → Type 0
-AreFaithful place runs last = EachRun (IsFaithfulRun place) runs last
+AreFaithful trail runs last = EachRun (IsFaithfulRun trail) runs last
 
 -- the same of Runs while calls are made: each has come to its end so far
 abbrev pub RunsGoOn : (ℕ → Content) → List Run → ℕ → Type 0
-RunsGoOn place runs last = EachRun (λ run end. HasRun place run.mark end run.base run.order) runs last
+RunsGoOn trail runs last = EachRun (λ run end. HasRun trail run.mark end run.base run.order) runs last

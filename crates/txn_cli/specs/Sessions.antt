@@ -12,9 +12,9 @@ at content session printed = record { content = content session.store; waiting =
 
 -- The batch may run, and each Run goes on up to the last call. Documents are placed before anything
 -- waits and before any Run.
-pub record IsHeld {S : Type 0} (content : S → Content) (place : S → ℕ → Content) (calls : S → ℕ) (session : Session S) : Type 0 where
+pub record IsHeld {S : Type 0} (content : S → Content) (trail : S → ℕ → Content) (calls : S → ℕ) (session : Session S) : Type 0 where
   pub may_run : MayRun (content session.store) session.batch
-  pub runs : RunsGoOn (place session.store) session.runs.items (calls session.store)
+  pub runs : RunsGoOn (trail session.store) session.runs.items (calls session.store)
   pub unbegun : session.begun ≡ false → (session.batch ≡ []) × (session.runs.items ≡ [])
 
 -- a session as a call begins: nothing stood, nothing waits, and there is no Run

@@ -3,9 +3,10 @@
 ghost use Rattle.std.specs.Prelude.{◌≡◌, ◌++◌, IsTrue, OnOk, IfErr, IsErrOf};
 ghost use Rattle.std.specs.List.{flat_map};
 ghost use Rattle.txn_key.specs.Documents.{pairs_of};
-ghost use Rattle.store_trait.specs.Calls.{CallsGoOn, Rose};
+ghost use Rattle.store_trait.specs.Calls.{Rose};
+ghost use Rattle.store_trait.specs.Stores.{CallsGoOn};
 ghost use Rattle.store_trait.specs.Contents.{Content};
-ghost use Rattle.store_trait.specs.Meaning.{bodies};
+ghost use Rattle.store_laws.specs.Meaning.{bodies};
 ghost use Rattle.store_laws.specs.Plain.{IsPlain};
 ghost use Rattle.txn_cli.specs.Refusals.{HasReason, IsOfRun, IsUnspent};
 ghost use Rattle.txn_cli.specs.Texts.{documents_text};
@@ -28,11 +29,11 @@ pub fn push_documents<S: Store>(
 ) -> Result<(), Fault>
     ensures printed { IsTrue S.tells → IsPlain (S.content store.old) → OnOk result
         (lines.new.items ≡ lines.old.items ++ documents_text (bodies (S.content store.old))) }
-    ensures reads { IsTrue S.tells → OnlyReads S.content S.place S.calls store.old store.new }
+    ensures reads { IsTrue S.tells → OnlyReads S.Store store.old store.new }
     ensures reason { (c : Content) → IfErr result (HasReason c) }
     ensures unspent { IfErr result IsUnspent }
     ensures kind { IfErr result IsOfRun }
-    ensures calls { CallsGoOn S.tells S.content S.place S.calls S.faults store.old store.new }
+    ensures calls { CallsGoOn S.Store store.old store.new }
     ensures fault { IsErrOf result Fault.Store → Rose (S.faults store.old) (S.faults store.new) }
 {
     let docs = match list_documents(alloc, store) {

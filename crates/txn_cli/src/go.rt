@@ -1,7 +1,8 @@
 //! How a batch is run.
 
 ghost use Rattle.std.specs.Prelude.{◌≡◌, true, List, length, IsTrue, IfOk, IfErr, OnOk, IsErrOf};
-ghost use Rattle.store_trait.specs.Calls.{CallsGoOn, Rose};
+ghost use Rattle.store_trait.specs.Calls.{Rose};
+ghost use Rattle.store_trait.specs.Stores.{CallsGoOn};
 ghost use Rattle.txn_runner.specs.Calm.{IsCalm};
 ghost use Rattle.txn_cli.specs.Batches.{MayRun, IsBegun, IsDoneWith, Every, HasOwnOperations, LeavesRecords, WorksOnBatch, are_built};
 ghost use Rattle.txn_runner.specs.Numbers.{Suffices, Uses};
@@ -29,19 +30,19 @@ pub fn run_batch<S: Store>(
     batch: &[Waiting],
 ) -> Result<Vec<u8>, Fault>
     requires may_run { IsTrue S.tells → MayRun (S.content store.old) batch.now }
-    requires runs { IsTrue S.tells → RunsGoOn (S.place store.old) runs.old.items (S.calls store.old) }
+    requires runs { IsTrue S.tells → RunsGoOn (S.trail store.old) runs.old.items (S.calls store.old) }
     requires built { are_built batch.now ≡ true }
-    ensures runs { IsTrue S.tells → RunsGoOn (S.place store.new) runs.new.items (S.calls store.new) }
+    ensures runs { IsTrue S.tells → RunsGoOn (S.trail store.new) runs.new.items (S.calls store.new) }
     ensures done { IsTrue S.tells → IfOk result
         (λ lines. HasRunBatch (S.content store.old) (S.content store.new) batch.now runs.old.items runs.new.items lines.items) }
     ensures calm { IsTrue S.tells → OnOk result (IsCalm (S.content store.new)) }
     ensures left { IsTrue S.tells → IfErr result (HasLeft true (S.content store.old) batch.now runs.old.items
-        (S.content store.new) (S.place store.new) runs.new.items) }
+        (S.content store.new) (S.trail store.new) runs.new.items) }
     ensures reason { IsTrue S.tells → IfErr result (HasReason (S.content store.new)) }
     ensures enough { IsTrue S.tells → Suffices (S.content store.old) (length batch.now) → IfErr result IsUnspent }
-    ensures cause { IfErr result (HasCause S.answered S.calls store.old store.new) }
+    ensures cause { IfErr result (HasCause S.Store store.old store.new) }
     ensures kind { IfErr result IsOfRun }
-    ensures calls { CallsGoOn S.tells S.content S.place S.calls S.faults store.old store.new }
+    ensures calls { CallsGoOn S.Store store.old store.new }
     ensures fault { IsErrOf result Fault.Store → Rose (S.faults store.old) (S.faults store.new) }
 {
     runs.reserve(1)?;
@@ -73,15 +74,15 @@ fn run_all<S: Store>(
     requires may_run { IsTrue S.tells → MayRun (S.content store.old) batch.now }
     requires built { are_built batch.now ≡ true }
     ensures works { IsTrue S.tells →
-        WorksOnBatch S.content S.place S.calls store.old store.new order.old.items order.new.items batch.now }
+        WorksOnBatch S.Store store.old store.new order.old.items order.new.items batch.now }
     ensures done { IsTrue S.tells → IfOk result (λ lines. IsDoneWith (S.content store.new) batch.now lines.items) }
     ensures uses { IsTrue S.tells → Uses (S.content store.old) (S.content store.new) (length batch.now) (length batch.now) 0 0 }
     ensures records { IsTrue S.tells → LeavesRecords (S.content store.new) order.old.items order.new.items batch.now }
     ensures unfinished { IsTrue S.tells → IfErr result (LeavesUnfinished (S.content store.new) batch.now) }
     ensures reason { IsTrue S.tells → IfErr result (HasReason (S.content store.new)) }
-    ensures cause { IfErr result (HasCause S.answered S.calls store.old store.new) }
+    ensures cause { IfErr result (HasCause S.Store store.old store.new) }
     ensures kind { IfErr result IsOfRun }
-    ensures calls { CallsGoOn S.tells S.content S.place S.calls S.faults store.old store.new }
+    ensures calls { CallsGoOn S.Store store.old store.new }
     ensures fault { IsErrOf result Fault.Store → Rose (S.faults store.old) (S.faults store.new) }
 {
     match submit_all(alloc, store, batch) {
@@ -94,15 +95,15 @@ fn run_all<S: Store>(
 fn submit_all<S: Store>(alloc: Global, store: &mut S, batch: &[Waiting]) -> Result<(), Fault>
     requires may_run { IsTrue S.tells → MayRun (S.content store.old) batch.now }
     ensures works { IsTrue S.tells → (order : List LogEntry) →
-        WorksOnBatch S.content S.place S.calls store.old store.new order order batch.now }
+        WorksOnBatch S.Store store.old store.new order order batch.now }
     ensures begun { IsTrue S.tells → OnOk result (IsBegun (S.content store.new) batch.now) }
     ensures uses { IsTrue S.tells → Uses (S.content store.old) (S.content store.new) 0 0 0 0 }
     ensures own { IsTrue S.tells → Every (HasOwnOperations (S.content store.new)) batch.now }
     ensures unfinished { IsTrue S.tells → IfErr result (LeavesUnfinished (S.content store.new) batch.now) }
     ensures reason { IsTrue S.tells → IfErr result (HasReason (S.content store.new)) }
-    ensures cause { IfErr result (HasCause S.answered S.calls store.old store.new) }
+    ensures cause { IfErr result (HasCause S.Store store.old store.new) }
     ensures kind { IfErr result IsOfRun }
-    ensures calls { CallsGoOn S.tells S.content S.place S.calls S.faults store.old store.new }
+    ensures calls { CallsGoOn S.Store store.old store.new }
     ensures fault { IsErrOf result Fault.Store → Rose (S.faults store.old) (S.faults store.new) }
 {
     for txn in batch {
@@ -125,14 +126,14 @@ fn settle_all<S: Store>(
     requires begun { IsTrue S.tells → IsBegun (S.content store.old) batch.now }
     requires built { are_built batch.now ≡ true }
     ensures works { IsTrue S.tells →
-        WorksOnBatch S.content S.place S.calls store.old store.new order.old.items order.new.items batch.now }
+        WorksOnBatch S.Store store.old store.new order.old.items order.new.items batch.now }
     ensures done { IsTrue S.tells → IfOk result (λ lines. IsDoneWith (S.content store.new) batch.now lines.items) }
     ensures uses { IsTrue S.tells → Uses (S.content store.old) (S.content store.new) (length batch.now) (length batch.now) 0 0 }
     ensures unfinished { IsTrue S.tells → IfErr result (LeavesUnfinished (S.content store.new) batch.now) }
     ensures reason { IsTrue S.tells → IfErr result (HasReason (S.content store.new)) }
-    ensures cause { IfErr result (HasCause S.answered S.calls store.old store.new) }
+    ensures cause { IfErr result (HasCause S.Store store.old store.new) }
     ensures kind { IfErr result IsOfRun }
-    ensures calls { CallsGoOn S.tells S.content S.place S.calls S.faults store.old store.new }
+    ensures calls { CallsGoOn S.Store store.old store.new }
     ensures fault { IsErrOf result Fault.Store → Rose (S.faults store.old) (S.faults store.new) }
 {
     let mut lines = Vec::new(alloc);

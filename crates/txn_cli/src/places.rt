@@ -4,7 +4,8 @@ ghost use Rattle.std.specs.Prelude.{◌≡◌, true, false, ◌&&◌, not, IsTru
 ghost use Rattle.std.specs.Bool.{OnTrue};
 ghost use Rattle.std.specs.FinMap.{get, insert};
 ghost use Rattle.std.specs.List.{list_all};
-ghost use Rattle.store_trait.specs.Calls.{CallsGoOn, Rose};
+ghost use Rattle.store_trait.specs.Calls.{Rose};
+ghost use Rattle.store_trait.specs.Stores.{CallsGoOn};
 ghost use Rattle.store_trait.specs.declared.name.Name.TheVariants.{Doc};
 ghost use Rattle.txn_cli.specs.Play.{placed_doc};
 ghost use Rattle.txn_runner.specs.Calm.{IsCalm};
@@ -34,7 +35,7 @@ pub fn place_document<S: Store>(
     ensures missed { IsTrue S.tells → IfOk result (λ placed. placed ≡ false → S.content store.new ≡ S.content store.old) }
     ensures left { IsTrue S.tells → OnErr result (S.content store.new ≡ S.content store.old) }
     ensures calm { IsTrue S.tells → IsCalm (S.content store.old) → IsCalm (S.content store.new) }
-    ensures calls { CallsGoOn S.tells S.content S.place S.calls S.faults store.old store.new }
+    ensures calls { CallsGoOn S.Store store.old store.new }
     ensures fault { IsErrOf result Fault.Store → Rose (S.faults store.old) (S.faults store.new) }
     ensures other { OnErr result ((result ≡ Err Fault.Store) ⊎ (result ≡ Err Fault.OutOfMemory)) }
 {
@@ -57,8 +58,8 @@ pub fn may_wait<S: Store>(alloc: Global, store: &mut S, id: TxnId, ops: &Ops) ->
     requires built { is_built ops.now ≡ true }
     ensures answer { IsTrue S.tells → IfOk result (λ may. may ≡ (not (has_record (S.content store.old) id)
         && list_all (λ op. has_document (S.content store.old) op.key) ops.now)) }
-    ensures reads { IsTrue S.tells → OnlyReads S.content S.place S.calls store.old store.new }
-    ensures calls { CallsGoOn S.tells S.content S.place S.calls S.faults store.old store.new }
+    ensures reads { IsTrue S.tells → OnlyReads S.Store store.old store.new }
+    ensures calls { CallsGoOn S.Store store.old store.new }
     ensures fault { IsErrOf result Fault.Store → Rose (S.faults store.old) (S.faults store.new) }
     ensures other { OnErr result ((result ≡ Err Fault.Store) ⊎ (result ≡ Err Fault.OutOfMemory)) }
 {
@@ -72,8 +73,8 @@ pub fn may_wait<S: Store>(alloc: Global, store: &mut S, id: TxnId, ops: &Ops) ->
 /// Whether a cell stands under a name.
 fn is_there<S: Store>(alloc: Global, store: &mut S, name: &Name) -> Result<bool, Fault>
     ensures answer { IsTrue S.tells → IfOk result (λ there. there ≡ is_some (get (S.content store.old) name.now)) }
-    ensures reads { IsTrue S.tells → OnlyReads S.content S.place S.calls store.old store.new }
-    ensures calls { CallsGoOn S.tells S.content S.place S.calls S.faults store.old store.new }
+    ensures reads { IsTrue S.tells → OnlyReads S.Store store.old store.new }
+    ensures calls { CallsGoOn S.Store store.old store.new }
     ensures fault { IsErrOf result Fault.Store → Rose (S.faults store.old) (S.faults store.new) }
     ensures other { OnErr result ((result ≡ Err Fault.Store) ⊎ (result ≡ Err Fault.OutOfMemory)) }
 {

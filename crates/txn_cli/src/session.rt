@@ -1,7 +1,8 @@
 //! A script as it is played: what each statement does to the store, and what it prints.
 
 ghost use Rattle.std.specs.Prelude.{◌≡◌, ◌≢◌, ◌++◌, [], ℕ, Bool, List, length, true, false, IsTrue, IfOk, OnOk, IfErr, IsErrOf};
-ghost use Rattle.store_trait.specs.Calls.{CallsGoOn, Rose};
+ghost use Rattle.store_trait.specs.Calls.{Rose};
+ghost use Rattle.store_trait.specs.Stores.{CallsGoOn};
 ghost use Rattle.store_trait.specs.Contents.{Content};
 ghost use Rattle.txn_cli.specs.Leaving.{HasLeft, runs_batch};
 ghost use Rattle.txn_cli.specs.Play.{is_allowed, lets_run, Does, RunsBatch};
@@ -46,25 +47,25 @@ impl<S: Store> Session<S> {
         line: u64,
         statement: Statement,
     ) -> Result<Vec<u8>, Fault>
-        requires held { IsTrue S.tells → IsTrue self.old.was_empty → IsHeld S.content S.place S.calls self.old }
+        requires held { IsTrue S.tells → IsTrue self.old.was_empty → IsHeld S.Store self.old }
         requires cleared { lets_run statement ≡ true → IsTrue self.old.was_empty → self.old.batch ≡ [] }
         ensures done { IsTrue S.tells → IfOk result (λ lines. (printed : List ℕ) →
             Does statement (at S.content self.old printed) (at S.content self.new (printed ++ lines.items))) }
-        ensures held { IsTrue S.tells → IsTrue self.old.was_empty → OnOk result (IsHeld S.content S.place S.calls self.new) }
+        ensures held { IsTrue S.tells → IsTrue self.old.was_empty → OnOk result (IsHeld S.Store self.new) }
         ensures runs { IsTrue S.tells → IsTrue self.old.was_empty →
-            RunsGoOn (S.place self.new.store) self.new.runs.items (S.calls self.new.store) }
+            RunsGoOn (S.trail self.new.store) self.new.runs.items (S.calls self.new.store) }
         ensures none_run { self.old.was_empty ≡ false → self.new.runs.items ≡ self.old.runs.items }
         ensures left { IsTrue S.tells → IfErr result (HasLeft (runs_batch statement) (S.content self.old.store) self.old.batch self.old.runs.items
-            (S.content self.new.store) (S.place self.new.store) self.new.runs.items) }
+            (S.content self.new.store) (S.trail self.new.store) self.new.runs.items) }
         ensures reason { IsTrue S.tells → IfErr result (HasReason (S.content self.new.store)) }
-        ensures cause { IfErr result (HasCause S.answered S.calls self.old.store self.new.store) }
+        ensures cause { IfErr result (HasCause S.Store self.old.store self.new.store) }
         ensures enough { IsTrue S.tells → (IsTrue self.old.was_empty → Suffices (S.content self.old.store) (length self.old.batch)) →
             IfErr result IsUnspent }
         ensures refused { IsTrue S.tells → IfErr result (λ fault. IsOfLine fault →
             (is_allowed (at S.content self.old []) statement ≡ false) × (fault ≡ not_built line)) }
         ensures kind { IfErr result IsOfWork }
         ensures kept { self.new.was_empty ≡ self.old.was_empty }
-        ensures calls { CallsGoOn S.tells S.content S.place S.calls S.faults self.old.store self.new.store }
+        ensures calls { CallsGoOn S.Store self.old.store self.new.store }
         ensures fault { IsErrOf result Fault.Store → Rose (S.faults self.old.store) (S.faults self.new.store) }
     {
         match statement {
@@ -76,24 +77,24 @@ impl<S: Store> Session<S> {
     }
 
     fn place(&mut self, alloc: Global, line: u64, key: Key, body: Value) -> Result<Vec<u8>, Fault>
-        requires held { IsTrue S.tells → IsTrue self.old.was_empty → IsHeld S.content S.place S.calls self.old }
+        requires held { IsTrue S.tells → IsTrue self.old.was_empty → IsHeld S.Store self.old }
         ensures done { IsTrue S.tells → IfOk result (λ lines. (printed : List ℕ) →
             Does (statement.Doc key body) (at S.content self.old printed) (at S.content self.new (printed ++ lines.items))) }
-        ensures held { IsTrue S.tells → IsTrue self.old.was_empty → OnOk result (IsHeld S.content S.place S.calls self.new) }
+        ensures held { IsTrue S.tells → IsTrue self.old.was_empty → OnOk result (IsHeld S.Store self.new) }
         ensures runs { IsTrue S.tells → IsTrue self.old.was_empty →
-            RunsGoOn (S.place self.new.store) self.new.runs.items (S.calls self.new.store) }
+            RunsGoOn (S.trail self.new.store) self.new.runs.items (S.calls self.new.store) }
         ensures none_run { self.old.was_empty ≡ false → self.new.runs.items ≡ self.old.runs.items }
         ensures left { IsTrue S.tells → IfErr result (HasLeft false (S.content self.old.store) self.old.batch self.old.runs.items
-            (S.content self.new.store) (S.place self.new.store) self.new.runs.items) }
+            (S.content self.new.store) (S.trail self.new.store) self.new.runs.items) }
         ensures reason { IsTrue S.tells → IfErr result (HasReason (S.content self.new.store)) }
-        ensures cause { IfErr result (HasCause S.answered S.calls self.old.store self.new.store) }
+        ensures cause { IfErr result (HasCause S.Store self.old.store self.new.store) }
         ensures enough { IsTrue S.tells → (IsTrue self.old.was_empty → Suffices (S.content self.old.store) (length self.old.batch)) →
             IfErr result IsUnspent }
         ensures refused { IsTrue S.tells → IfErr result (λ fault. IsOfLine fault →
             (is_allowed (at S.content self.old []) (statement.Doc key body) ≡ false) × (fault ≡ not_built line)) }
         ensures kind { IfErr result IsOfWork }
         ensures kept { self.new.was_empty ≡ self.old.was_empty }
-        ensures calls { CallsGoOn S.tells S.content S.place S.calls S.faults self.old.store self.new.store }
+        ensures calls { CallsGoOn S.Store self.old.store self.new.store }
         ensures fault { IsErrOf result Fault.Store → Rose (S.faults self.old.store) (S.faults self.new.store) }
     {
         if self.begun {
@@ -114,24 +115,24 @@ impl<S: Store> Session<S> {
         ops: Ops,
         info: Option<Value>,
     ) -> Result<Vec<u8>, Fault>
-        requires held { IsTrue S.tells → IsTrue self.old.was_empty → IsHeld S.content S.place S.calls self.old }
+        requires held { IsTrue S.tells → IsTrue self.old.was_empty → IsHeld S.Store self.old }
         ensures done { IsTrue S.tells → IfOk result (λ lines. (printed : List ℕ) →
             Does (statement.Submit id ops info) (at S.content self.old printed) (at S.content self.new (printed ++ lines.items))) }
-        ensures held { IsTrue S.tells → IsTrue self.old.was_empty → OnOk result (IsHeld S.content S.place S.calls self.new) }
+        ensures held { IsTrue S.tells → IsTrue self.old.was_empty → OnOk result (IsHeld S.Store self.new) }
         ensures runs { IsTrue S.tells → IsTrue self.old.was_empty →
-            RunsGoOn (S.place self.new.store) self.new.runs.items (S.calls self.new.store) }
+            RunsGoOn (S.trail self.new.store) self.new.runs.items (S.calls self.new.store) }
         ensures none_run { self.old.was_empty ≡ false → self.new.runs.items ≡ self.old.runs.items }
         ensures left { IsTrue S.tells → IfErr result (HasLeft false (S.content self.old.store) self.old.batch self.old.runs.items
-            (S.content self.new.store) (S.place self.new.store) self.new.runs.items) }
+            (S.content self.new.store) (S.trail self.new.store) self.new.runs.items) }
         ensures reason { IsTrue S.tells → IfErr result (HasReason (S.content self.new.store)) }
-        ensures cause { IfErr result (HasCause S.answered S.calls self.old.store self.new.store) }
+        ensures cause { IfErr result (HasCause S.Store self.old.store self.new.store) }
         ensures enough { IsTrue S.tells → (IsTrue self.old.was_empty → Suffices (S.content self.old.store) (length self.old.batch)) →
             IfErr result IsUnspent }
         ensures refused { IsTrue S.tells → IfErr result (λ fault. IsOfLine fault →
             (is_allowed (at S.content self.old []) (statement.Submit id ops info) ≡ false) × (fault ≡ not_built line)) }
         ensures kind { IfErr result IsOfWork }
         ensures kept { self.new.was_empty ≡ self.old.was_empty }
-        ensures calls { CallsGoOn S.tells S.content S.place S.calls S.faults self.old.store self.new.store }
+        ensures calls { CallsGoOn S.Store self.old.store self.new.store }
         ensures fault { IsErrOf result Fault.Store → Rose (S.faults self.old.store) (S.faults self.new.store) }
     {
         if self.batch.is_full() {
@@ -156,25 +157,25 @@ impl<S: Store> Session<S> {
 
     /// Runs the batch, and answers the lines of the outcomes.
     pub fn go(&mut self, alloc: Global, line: u64) -> Result<Vec<u8>, Fault>
-        requires held { IsTrue S.tells → IsTrue self.old.was_empty → IsHeld S.content S.place S.calls self.old }
+        requires held { IsTrue S.tells → IsTrue self.old.was_empty → IsHeld S.Store self.old }
         ensures done { IsTrue S.tells → IfOk result (λ lines. (printed : List ℕ) →
             RunsBatch (at S.content self.old printed) (at S.content self.new (printed ++ lines.items))) }
         ensures allowed { OnOk result (self.old.was_empty ≡ true) }
         ensures cleared { OnOk result (self.new.batch ≡ []) }
-        ensures held { IsTrue S.tells → IsTrue self.old.was_empty → OnOk result (IsHeld S.content S.place S.calls self.new) }
+        ensures held { IsTrue S.tells → IsTrue self.old.was_empty → OnOk result (IsHeld S.Store self.new) }
         ensures runs { IsTrue S.tells → IsTrue self.old.was_empty →
-            RunsGoOn (S.place self.new.store) self.new.runs.items (S.calls self.new.store) }
+            RunsGoOn (S.trail self.new.store) self.new.runs.items (S.calls self.new.store) }
         ensures none_run { self.old.was_empty ≡ false → self.new.runs.items ≡ self.old.runs.items }
         ensures left { IsTrue S.tells → IfErr result (HasLeft true (S.content self.old.store) self.old.batch self.old.runs.items
-            (S.content self.new.store) (S.place self.new.store) self.new.runs.items) }
+            (S.content self.new.store) (S.trail self.new.store) self.new.runs.items) }
         ensures reason { IsTrue S.tells → IfErr result (HasReason (S.content self.new.store)) }
-        ensures cause { IfErr result (HasCause S.answered S.calls self.old.store self.new.store) }
+        ensures cause { IfErr result (HasCause S.Store self.old.store self.new.store) }
         ensures enough { IsTrue S.tells → (IsTrue self.old.was_empty → Suffices (S.content self.old.store) (length self.old.batch)) →
             IfErr result IsUnspent }
         ensures refused { IfErr result (λ fault. IsOfLine fault → (self.old.was_empty ≡ false) × (fault ≡ not_built line)) }
         ensures kind { IfErr result IsOfWork }
         ensures kept { self.new.was_empty ≡ self.old.was_empty }
-        ensures calls { CallsGoOn S.tells S.content S.place S.calls S.faults self.old.store self.new.store }
+        ensures calls { CallsGoOn S.Store self.old.store self.new.store }
         ensures fault { IsErrOf result Fault.Store → Rose (S.faults self.old.store) (S.faults self.new.store) }
     {
         if !self.was_empty {
@@ -192,25 +193,25 @@ impl<S: Store> Session<S> {
     }
 
     fn show(&mut self, alloc: Global, line: u64) -> Result<Vec<u8>, Fault>
-        requires held { IsTrue S.tells → IsTrue self.old.was_empty → IsHeld S.content S.place S.calls self.old }
+        requires held { IsTrue S.tells → IsTrue self.old.was_empty → IsHeld S.Store self.old }
         requires cleared { IsTrue self.old.was_empty → self.old.batch ≡ [] }
         ensures done { IsTrue S.tells → IfOk result (λ lines. (printed : List ℕ) →
             Does statement.Show (at S.content self.old printed) (at S.content self.new (printed ++ lines.items))) }
-        ensures held { IsTrue S.tells → IsTrue self.old.was_empty → OnOk result (IsHeld S.content S.place S.calls self.new) }
+        ensures held { IsTrue S.tells → IsTrue self.old.was_empty → OnOk result (IsHeld S.Store self.new) }
         ensures runs { IsTrue S.tells → IsTrue self.old.was_empty →
-            RunsGoOn (S.place self.new.store) self.new.runs.items (S.calls self.new.store) }
+            RunsGoOn (S.trail self.new.store) self.new.runs.items (S.calls self.new.store) }
         ensures none_run { self.old.was_empty ≡ false → self.new.runs.items ≡ self.old.runs.items }
         ensures left { IsTrue S.tells → IfErr result (HasLeft false (S.content self.old.store) self.old.batch self.old.runs.items
-            (S.content self.new.store) (S.place self.new.store) self.new.runs.items) }
+            (S.content self.new.store) (S.trail self.new.store) self.new.runs.items) }
         ensures reason { IsTrue S.tells → IfErr result (HasReason (S.content self.new.store)) }
-        ensures cause { IfErr result (HasCause S.answered S.calls self.old.store self.new.store) }
+        ensures cause { IfErr result (HasCause S.Store self.old.store self.new.store) }
         ensures enough { IsTrue S.tells → (IsTrue self.old.was_empty → Suffices (S.content self.old.store) (length self.old.batch)) →
             IfErr result IsUnspent }
         ensures refused { IsTrue S.tells → IfErr result (λ fault. IsOfLine fault →
             (is_allowed (at S.content self.old []) statement.Show ≡ false) × (fault ≡ not_built line)) }
         ensures kind { IfErr result IsOfWork }
         ensures kept { self.new.was_empty ≡ self.old.was_empty }
-        ensures calls { CallsGoOn S.tells S.content S.place S.calls S.faults self.old.store self.new.store }
+        ensures calls { CallsGoOn S.Store self.old.store self.new.store }
         ensures fault { IsErrOf result Fault.Store → Rose (S.faults self.old.store) (S.faults self.new.store) }
     {
         if !self.was_empty {

@@ -20,20 +20,20 @@ is_settled_state Applying = false
 is_settled_state Aborted = true
 is_settled_state Applied = true
 
--- its nonce is drawn and kept: all but preparing
-abbrev pub is_decided_state : State → Bool
-is_decided_state Preparing = false
-is_decided_state Prepared = true
-is_decided_state Aborting = true
-is_decided_state Applying = true
-is_decided_state Aborted = true
-is_decided_state Applied = true
+-- it was prepared, so that its nonce is drawn and kept: all but preparing
+abbrev pub was_prepared_state : State → Bool
+was_prepared_state Preparing = false
+was_prepared_state Prepared = true
+was_prepared_state Aborting = true
+was_prepared_state Applying = true
+was_prepared_state Aborted = true
+was_prepared_state Applied = true
 
--- it was chosen whether it applies or aborts: states 3 to 6
-abbrev pub is_chosen_state : State → Bool
-is_chosen_state Preparing = false
-is_chosen_state Prepared = false
-is_chosen_state Aborting = true
-is_chosen_state Applying = true
-is_chosen_state Aborted = true
-is_chosen_state Applied = true
+-- it was decided whether it applies or aborts: states 3 to 6
+abbrev pub was_decided_state : State → Bool
+was_decided_state Preparing = false
+was_decided_state Prepared = false
+was_decided_state Aborting = true
+was_decided_state Applying = true
+was_decided_state Aborted = true
+was_decided_state Applied = true

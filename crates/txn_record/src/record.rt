@@ -1,5 +1,5 @@
 ghost use Rattle.std.specs.Prelude.{◌≡◌, IfOk};
-ghost use Rattle.txn_record.specs.States.{is_settled_state, is_decided_state};
+ghost use Rattle.txn_record.specs.States.{is_settled_state, was_prepared_state};
 
 use crate::ops::Ops;
 use crate::state::State;
@@ -32,7 +32,7 @@ impl Record {
 
     /// Whether its nonce is drawn and kept: every state but preparing.
     pub fn is_decided(&self) -> bool
-        ensures { result ≡ is_decided_state self.now.state }
+        ensures { result ≡ was_prepared_state self.now.state }
     {
         !matches!(self.state, State::Preparing)
     }

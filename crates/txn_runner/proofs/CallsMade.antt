@@ -1,13 +1,15 @@
 -- Calls on a store, one after another.
 use Rattle.std.proofs.Common.{ℕ, ◌≤◌, Result, Ok, Err, Bool, ⊎_elim, inl, inr, ◌∙◌, arith}
-use Rattle.store_trait.specs.Calls.{CallsGoOn, OneCall, Rose}
+use Rattle.store_trait.specs.Calls.{Rose}
+use Rattle.store_trait.specs.Stores.{CallsGoOn, OneCall}
 use Rattle.store_trait.specs.Contents.{Content}
+use Rattle.store_trait.specs.declared.store.Store.{Ghosts}
 
 -- calls on a store, and then more
-pub calls_then : {S : Type 0} (tells : Bool) (content : S → Content) (place : S → ℕ → Content) (calls faults : S → ℕ) (a b c : S)
-    → CallsGoOn tells content place calls faults a b → CallsGoOn tells content place calls faults b c
-    → CallsGoOn tells content place calls faults a c
-calls_then tells content place calls faults a b c first second = record {
+pub calls_then : {S : Type 0} (store : Ghosts S) (a b c : S)
+    → CallsGoOn store a b → CallsGoOn store b c
+    → CallsGoOn store a c
+calls_then store a b c first second = record {
   trail = λ told. record {
     before = λ n le. (second.trail told).before n (omega (arith, first.counted)) ∙ (first.trail told).before n le;
     here = (second.trail told).here;
@@ -17,10 +19,10 @@ calls_then tells content place calls faults a b c first second = record {
 }
 
 -- calls on a store, and one more, whatever it answers
-pub call_after : {S T E : Type 0} (tells : Bool) (content : S → Content) (place : S → ℕ → Content) (calls faults : S → ℕ) (a b c : S) (result : Result T E) (failed : E)
-    → CallsGoOn tells content place calls faults a b → OneCall tells content place calls faults b c result failed
-    → CallsGoOn tells content place calls faults a c
-call_after {S} {T} {E} tells content place calls faults a b c result failed first one = record {
+pub call_after : {S T E : Type 0} (store : Ghosts S) (a b c : S) (result : Result T E) (failed : E)
+    → CallsGoOn store a b → OneCall store b c result failed
+    → CallsGoOn store a c
+call_after {S} {T} {E} store a b c result failed first one = record {
   trail = λ told. record {
     before = λ n le. (one.trail told).before n (omega (arith, first.counted)) ∙ (first.trail told).before n le;
     here = (one.trail told).here;
@@ -29,7 +31,7 @@ call_after {S} {T} {E} tells content place calls faults a b c result failed firs
   later = omega (arith, first.later, one.later);
 }
   where
-    by : (r : Result T E) → OneCall tells content place calls faults b c r failed → calls a ≤ calls c
+    by : (r : Result T E) → OneCall store b c r failed → store.calls a ≤ store.calls c
     by (Ok x) o = omega (arith, first.counted, o.counted)
     by (Err e) o = ⊎_elim (λ more. omega (arith, first.counted, more)) (λ same. omega (arith, first.counted, same)) o.counted_err
 

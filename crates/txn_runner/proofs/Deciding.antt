@@ -10,11 +10,11 @@ use Rattle.txn_record.specs.declared.record.Record.{Record}
 use Rattle.txn_record.specs.declared.state.State.{State}
 use Rattle.txn_record.specs.declared.state.State.TheVariants as state
 use Rattle.store_trait.specs.Contents.{Content}
-use Rattle.store_trait.specs.Done.{AllPassed}
+use Rattle.store_laws.specs.Done.{AllPassed}
 use Rattle.store_trait.specs.Edits.{hit, edited}
-use Rattle.store_trait.specs.Readiness.{IsReady, token}
-use Rattle.store_trait.specs.Steps.{IsQuiet, Applies, Aborts}
-use Rattle.store_trait.specs.View.{look}
+use Rattle.store_laws.specs.Readiness.{IsReady, token}
+use Rattle.store_laws.specs.Steps.{IsQuiet, Applies, Aborts}
+use Rattle.store_laws.specs.View.{look}
 use Rattle.store_trait.specs.declared.edit.Edit.TheVariants as edit
 use Rattle.store_trait.specs.declared.name.Name.TheVariants as name
 use Rattle.store_laws.specs.Chains.{IsAt, AppliesUpdate}

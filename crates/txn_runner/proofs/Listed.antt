@@ -22,7 +22,7 @@ use Rattle.store_trait.proofs.NameOrder.{name_cmp_total, name_cmp-IsAntisymmetri
 use Rattle.store_trait.specs.Cells.{as_doc}
 use Rattle.store_trait.specs.Contents.{Content, is_past, first_past, named}
 use Rattle.store_trait.specs.Names.{may_stand, name_cmp}
-use Rattle.store_trait.specs.View.{doc_at}
+use Rattle.store_laws.specs.View.{doc_at}
 use Rattle.store_trait.specs.declared.cell.Cell.{Cell}
 use Rattle.store_trait.specs.declared.cell.Cell.TheVariants as cell
 use Rattle.store_trait.specs.declared.cell.DocCell.{DocCell}

@@ -12,7 +12,7 @@ use Rattle.txn_record.specs.declared.op.Change.{Change}
 use Rattle.txn_record.specs.declared.state.State.TheVariants as state
 use Rattle.store_trait.specs.Cells.{as_doc}
 use Rattle.store_trait.specs.Contents.{Content}
-use Rattle.store_trait.specs.View.{look, doc_at, held_number}
+use Rattle.store_laws.specs.View.{look, doc_at, held_number}
 use Rattle.store_trait.specs.declared.cell.Cell.{Cell}
 use Rattle.store_trait.specs.declared.cell.DocCell.{DocCell}
 use Rattle.store_trait.specs.declared.name.Name.TheVariants as name

@@ -9,7 +9,7 @@ use Rattle.txn_key.specs.declared.key.Key.{Key}
 use Rattle.txn_record.specs.declared.entry.Outcome.TheVariants as outcome
 use Rattle.store_trait.specs.Contents.{Content}
 use Rattle.store_trait.specs.Edits.{edited, hit}
-use Rattle.store_trait.specs.View.{counter}
+use Rattle.store_laws.specs.View.{counter}
 use Rattle.store_trait.specs.declared.edit.Edit.{Edit}
 use Rattle.store_trait.specs.declared.edit.Edit.TheVariants as edit
 use Rattle.store_trait.specs.declared.name.Name.{Name}

@@ -5,7 +5,7 @@ use Rattle.std.specs.List.{list_all}
 use Rattle.std.specs.Option.{option_and_then}
 use Rattle.std.proofs.lemmas.Bool.{and_parts}
 use Rattle.txn_key.specs.declared.key.Key.{Key}
-use Rattle.txn_record.specs.States.{is_decided_state}
+use Rattle.txn_record.specs.States.{was_prepared_state}
 use Rattle.txn_record.specs.declared.op.Op.{Op}
 use Rattle.txn_record.specs.declared.record.Record.{Record}
 use Rattle.txn_record.specs.declared.state.State.{State}
@@ -13,8 +13,8 @@ use Rattle.txn_record.specs.declared.state.State.TheVariants as state
 use Rattle.store_trait.specs.Cells.{as_doc}
 use Rattle.store_trait.specs.Contents.{Content}
 use Rattle.store_trait.specs.Edits.{hit, edited, moved}
-use Rattle.store_trait.specs.Soundness.{IsSound}
-use Rattle.store_trait.specs.View.{look, record_at, doc_at, decided, state_passes}
+use Rattle.store_laws.specs.Soundness.{IsSound}
+use Rattle.store_laws.specs.View.{look, record_at, doc_at, was_prepared, state_passes}
 use Rattle.store_trait.specs.declared.cell.Cell.{Cell}
 use Rattle.store_trait.specs.declared.cell.Cell.TheVariants as cell
 use Rattle.store_trait.specs.declared.cell.DocCell.{DocCell}
@@ -49,10 +49,10 @@ pub move_hits : (c : Content) (txn : Waiting) (from to : State) (nonce given : O
     → is_some (hit (edit.Move from to given numbers) (name.Record txn.id) (get c (name.Record txn.id))) ≡ true
 move_hits c txn from to nonce given revnos numbers there = move_must c txn.id from to given numbers (stored txn from nonce revnos) there refl
 
--- a prepared record is decided
-pub decided_now : (c : Content) (txn : Waiting) (nonce : ℕ) → IsThere c txn state.Prepared (Some nonce) None → decided (look c) txn.id ≡ true
-unfolding look decided
-decided_now c txn nonce there = ap (λ (o : Option Record). state_passes is_decided_state o) there
+-- a prepared record was prepared
+pub decided_now : (c : Content) (txn : Waiting) (nonce : ℕ) → IsThere c txn state.Prepared (Some nonce) None → was_prepared (look c) txn.id ≡ true
+unfolding look was_prepared
+decided_now c txn nonce there = ap (λ (o : Option Record). state_passes was_prepared_state o) there
 
 -- the document of the one operation is there
 pub has_doc : (c : Content) (txn : Waiting) (op : Op) → txn.ops ≡ op ∷ [] → HasDocuments c txn → has_document c op.key ≡ true

@@ -8,9 +8,9 @@ use Rattle.txn_record.specs.declared.record.Record.{Record}
 use Rattle.txn_record.specs.declared.state.State.TheVariants as state
 use Rattle.store_trait.specs.Contents.{Content}
 use Rattle.store_trait.specs.Edits.{hit, edited}
-use Rattle.store_trait.specs.Readiness.{In, token}
-use Rattle.store_trait.specs.Steps.{IsQuiet}
-use Rattle.store_trait.specs.View.{look, valid_nonce, IsOn}
+use Rattle.store_laws.specs.Readiness.{In, token}
+use Rattle.store_laws.specs.Steps.{IsQuiet}
+use Rattle.store_laws.specs.View.{look, valid_nonce, IsOn}
 use Rattle.store_trait.specs.declared.edit.Edit.TheVariants as edit
 use Rattle.store_trait.specs.declared.name.Name.TheVariants as name
 use Rattle.store_laws.proofs.AfterEdits.{record_elsewhere, counter_elsewhere, record_edit_queues, add_comes, added_waits}

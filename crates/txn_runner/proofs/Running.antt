@@ -6,23 +6,23 @@ use Rattle.txn_record.specs.declared.entry.Entry.{Entry}
 use Rattle.txn_record.specs.declared.record.Record.{Record}
 use Rattle.store_trait.specs.Calls.{GoesOn}
 use Rattle.store_trait.specs.Contents.{Content}
-use Rattle.store_trait.specs.Decisions.{decided_by, entry_at}
-use Rattle.store_trait.specs.Meaning.{meaning}
-use Rattle.store_trait.specs.Soundness.{IsSound}
-use Rattle.store_trait.specs.Steps.{IsQuiet, Applies, Aborts}
+use Rattle.store_laws.specs.Decisions.{decided_by, entry_at}
+use Rattle.store_laws.specs.Meaning.{meaning}
+use Rattle.store_laws.specs.Soundness.{IsSound}
+use Rattle.store_laws.specs.Steps.{IsQuiet, Applies, Aborts}
 use Rattle.store_laws.proofs.Misses.{quiet_itself}
 use Rattle.store_laws.proofs.TrailGrows.{trail_opens, trail_more, trail_same}
 use Rattle.store_laws.specs.Trail.{IsCall, IsTrail, Quiet, Applying, Aborting}
 use Rattle.txn_runner.specs.Running.{HasRun}
 
-pub run_opens : (place : ℕ → Content) (mark : ℕ) → IsSound (place mark) → HasRun place mark mark (meaning (place mark)) []
-run_opens place mark sound = record { made = 0; counted = omega arith; trail = trail_opens place mark sound }
+pub run_opens : (trail : ℕ → Content) (mark : ℕ) → IsSound (trail mark) → HasRun trail mark mark (meaning (trail mark)) []
+run_opens trail mark sound = record { made = 0; counted = omega arith; trail = trail_opens trail mark sound }
 
 pub run_same : (p q : ℕ → Content) (mark n : ℕ) (base : Docs) (order : List Entry) → ((k : ℕ) → k ≤ n → q k ≡ p k) → HasRun p mark n base order → HasRun q mark n base order
 run_same p q mark n base order same h = record {
   made = h.made;
   counted = h.counted;
-  trail = trail_same p q mark h.made base order (λ k le. same k (omega (arith, h.counted))) h.trail;
+  told = trail_same p q mark h.made base order (λ k le. same k (omega (arith, h.counted))) h.told;
 }
 
 -- one call more, at its place
@@ -39,11 +39,11 @@ module _ (q : ℕ → Content) (mark n : ℕ) (base : Docs) (order : List Entry)
   call : IsCall c d → IsCall (q (mark + h.made)) (q (mark + h.made + 1))
   call one = subst (λ (x : Content). IsCall x (q (mark + h.made + 1))) (sym from) (subst (IsCall c) (sym to) one)
 
-  grown : (added : List Entry) → IsCall c d → ((place : ℕ) → place ≡ n + 1 → decided_by c d place ≡ added) → HasRun q mark (n + 1) base (order ++ added)
+  grown : (added : List Entry) → IsCall c d → ((trail : ℕ) → trail ≡ n + 1 → decided_by c d trail ≡ added) → HasRun q mark (n + 1) base (order ++ added)
   grown added one adds = record {
     made = h.made + 1;
     counted = omega (arith, h.counted);
-    trail = subst (λ (l : List Entry). IsTrail q mark (h.made + 1) base (order ++ l)) (seen ∙ adds (mark + h.made + 1) at) (trail_more q mark h.made base order h.trail (call one));
+    told = subst (λ (l : List Entry). IsTrail q mark (h.made + 1) base (order ++ l)) (seen ∙ adds (mark + h.made + 1) at) (trail_more q mark h.made base order h.told (call one));
   }
     where
       seen : decided_by (q (mark + h.made)) (q (mark + h.made + 1)) (mark + h.made + 1) ≡ decided_by c d (mark + h.made + 1)

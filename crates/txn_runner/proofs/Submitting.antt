@@ -7,9 +7,9 @@ use Rattle.txn_record.specs.declared.record.Record.{Record}
 use Rattle.store_trait.specs.Cells.{as_record}
 use Rattle.store_trait.specs.Contents.{Content}
 use Rattle.store_trait.specs.Edits.{hit, edited}
-use Rattle.store_trait.specs.Soundness.{IsSound}
-use Rattle.store_trait.specs.Steps.{IsQuiet}
-use Rattle.store_trait.specs.View.{record_at}
+use Rattle.store_laws.specs.Soundness.{IsSound}
+use Rattle.store_laws.specs.Steps.{IsQuiet}
+use Rattle.store_laws.specs.View.{record_at}
 use Rattle.store_trait.specs.declared.cell.Cell.{Cell}
 use Rattle.store_trait.specs.declared.cell.Cell.TheVariants as cell
 use Rattle.store_trait.specs.declared.edit.Edit.TheVariants as edit

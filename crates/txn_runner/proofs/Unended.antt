@@ -4,7 +4,7 @@ use Rattle.txn_key.specs.declared.id.TxnId.{TxnId}
 use Rattle.txn_record.specs.declared.record.Record.{Record}
 use Rattle.store_trait.specs.Contents.{Content}
 use Rattle.store_trait.specs.Edits.{edited}
-use Rattle.store_trait.specs.View.{record_at}
+use Rattle.store_laws.specs.View.{record_at}
 use Rattle.store_trait.specs.declared.edit.Edit.TheVariants as edit
 use Rattle.store_trait.specs.declared.name.Name.TheVariants as name
 use Rattle.store_laws.proofs.AfterEdits.{record_elsewhere}

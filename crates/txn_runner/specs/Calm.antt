@@ -1,7 +1,7 @@
 -- What a store holds between two batches.
 use Rattle.store_trait.specs.Contents.{Content}
-use Rattle.store_trait.specs.Soundness.{IsSound}
-use Rattle.store_trait.specs.View.{look}
+use Rattle.store_laws.specs.Soundness.{IsSound}
+use Rattle.store_laws.specs.View.{look}
 use Rattle.store_laws.specs.Alone.{IsAtRest}
 use Rattle.store_laws.specs.Plain.{IsPlain}
 

@@ -19,6 +19,7 @@ use Rattle.txn_runner.specs.declared.stage.Stage.{Stage}
 use Rattle.txn_runner.specs.declared.stage.Stage.TheVariants as stage
 use Rattle.txn_runner.specs.declared.error.StepError.{StepError}
 use Rattle.txn_runner.specs.declared.error.StepError.TheVariants as step
+use Rattle.store_trait.specs.declared.store.Store.{Ghosts}
 
 -- how a store refuses a call
 abbrev pub step_error_of : StoreError → StepError
@@ -32,16 +33,16 @@ IsOfStore step.OutOfMemory = Unit {0}
 IsOfStore _ = ⊥
 
 -- the store answered an edit with that hit or miss
-pub record AnsweredEdit {S : Type 0} (answered : S → Exchange → S → Type 0) (calls : S → ℕ) (old : S) (name : Name) (edit : Edit) (hit : Bool) (new : S) : Type 0 where
+pub record AnsweredEdit {S : Type 0} (store : Ghosts S) (old : S) (name : Name) (edit : Edit) (hit : Bool) (new : S) : Type 0 where
   pub found : Option Cell
-  pub counted : calls new ≡ calls old + 1
-  pub answer : answered old (Edits name edit hit found) new
+  pub counted : store.calls new ≡ store.calls old + 1
+  pub answer : store.answered old (Edits name edit (Ok (record { hit = hit; cell = found }))) new
 
 -- Besides the store's own refusals there is one: a record and the cell of a name disagree, where the
 -- edit of it missed.
-abbrev pub IsMissed : {S : Type 0} → (S → Exchange → S → Type 0) → (S → ℕ) → S → TxnId → Name → Edit → S → StepError → Type 0
-IsMissed answered calls old id name edit new (step.Clash who at) = (who ≡ id) × (at ≡ name) × AnsweredEdit answered calls old name edit false new
-IsMissed answered calls old id name edit new error = IsOfStore error
+abbrev pub IsMissed : {S : Type 0} → Ghosts S → S → TxnId → Name → Edit → S → StepError → Type 0
+IsMissed store old id name edit new (step.Clash who at) = (who ≡ id) × (at ≡ name) × AnsweredEdit store old name edit false new
+IsMissed store old id name edit new error = IsOfStore error
 
 -- the cell that a store answered is no document
 abbrev pub is_no_document : Option Cell → Bool
@@ -58,13 +59,17 @@ drawn_of id _ None = Err (step.Clash id name.Nonce)
 -- ---- what an answer shows
 
 -- no nonce was drawn, and the counter stands at its end
+abbrev pub NoneLeft : Bool → Option Cell → Type 0
+NoneLeft false (Some (cell.Nonce counter)) = nonce_limit ≤ counter
+NoneLeft _ _ = ⊥
+
 abbrev pub ShowsNoNonce : Exchange → Type 0
-ShowsNoNonce (Edits name.Nonce edit.DrawNonce false (Some (cell.Nonce counter))) = nonce_limit ≤ counter
+ShowsNoNonce (Edits name.Nonce edit.DrawNonce (Ok done)) = NoneLeft done.hit done.cell
 ShowsNoNonce _ = ⊥
 
 -- the document of that key stands past the last number
 abbrev pub ShowsSpentRevno : Key → Exchange → Type 0
-ShowsSpentRevno key (Reads (name.Doc at) (Some (cell.Doc doc))) = (at ≡ key) × (last_revno < unsigned_abs doc.revno)
+ShowsSpentRevno key (Reads (name.Doc at) (Ok (Some (cell.Doc doc)))) = (at ≡ key) × (last_revno < unsigned_abs doc.revno)
 ShowsSpentRevno _ _ = ⊥
 
 -- An edit for a transaction, of its record or of a queue that its token is put into, missed; or what
@@ -77,43 +82,45 @@ ShowsMiss _ _ _ _ _ = ⊥
 
 -- the record of a transaction and what the store answered at a name disagree
 abbrev pub ShowsClash : TxnId → Name → Exchange → Type 0
-ShowsClash id at (Edits name edit hit found) = (name ≡ at) × ShowsMiss id at edit hit found
-ShowsClash id at (Reads (name.Doc key) found) = (at ≡ name.Doc key) × (is_no_document found ≡ true)
+ShowsClash id at (Edits name edit (Ok done)) = (name ≡ at) × ShowsMiss id at edit done.hit done.cell
+ShowsClash id at (Reads (name.Doc key) (Ok found)) = (at ≡ name.Doc key) × (is_no_document found ≡ true)
 ShowsClash _ _ _ = ⊥
 
 -- a record of that id is there, so that none was put
 abbrev pub ShowsRepeated : TxnId → Exchange → Type 0
-ShowsRepeated id (Edits at (edit.InsertRecord _) hit _) = (at ≡ name.Record id) × (hit ≡ false)
+ShowsRepeated id (Edits at (edit.InsertRecord _) (Ok done)) =
+    (at ≡ name.Record id) × (done.hit ≡ false)
 ShowsRepeated _ _ = ⊥
 
 -- the record of that id came to that end
 abbrev pub ShowsEnd : TxnId → Outcome → Exchange → Type 0
-ShowsEnd id outcome (Edits at (edit.Move from to _ _) hit _) = (at ≡ name.Record id) × (to ≡ settled_state outcome) × (hit ≡ true)
+ShowsEnd id outcome (Edits at (edit.Move from to _ _) (Ok done)) =
+    (at ≡ name.Record id) × (to ≡ settled_state outcome) × (done.hit ≡ true)
 ShowsEnd id outcome _ = ⊥
 
 -- ---- why a step is refused, over a store that tells nothing too
 
 -- The last call on a store was made since then, and was answered in a way that shows this.
-pub record LastShows {S : Type 0} (answered : S → Exchange → S → Type 0) (calls : S → ℕ) (old new : S) (Shows : Exchange → Type 0) : Type 0 where
+pub record LastShows {S : Type 0} (store : Ghosts S) (old new : S) (Shows : Exchange → Type 0) : Type 0 where
   pub before : S
   pub exchange : Exchange
-  pub since : calls old ≤ calls before
-  pub last : calls new ≡ calls before + 1
-  pub answer : answered before exchange new
+  pub since : store.calls old ≤ store.calls before
+  pub last : store.calls new ≡ store.calls before + 1
+  pub answer : store.answered before exchange new
   pub shows : Shows exchange
 
 -- No nonce is left, or a number is past the last, or a record and a cell disagree: each only where the
 -- last call was answered so. A record is never found missing.
-abbrev pub HasCause : {S : Type 0} → (S → Exchange → S → Type 0) → (S → ℕ) → S → S → TxnId → StepError → Type 0
-HasCause answered calls old new id step.NoncesSpent = LastShows answered calls old new ShowsNoNonce
-HasCause answered calls old new id (step.RevnoSpent key) = LastShows answered calls old new (ShowsSpentRevno key)
-HasCause answered calls old new id (step.Clash who at) = (who ≡ id) × LastShows answered calls old new (ShowsClash id at)
-HasCause answered calls old new id (step.Lost _) = ⊥
-HasCause answered calls old new id error = IsOfStore error
+abbrev pub HasCause : {S : Type 0} → Ghosts S → S → S → TxnId → StepError → Type 0
+HasCause store old new id step.NoncesSpent = LastShows store old new ShowsNoNonce
+HasCause store old new id (step.RevnoSpent key) = LastShows store old new (ShowsSpentRevno key)
+HasCause store old new id (step.Clash who at) = (who ≡ id) × LastShows store old new (ShowsClash id at)
+HasCause store old new id (step.Lost _) = ⊥
+HasCause store old new id error = IsOfStore error
 
 -- ---- how a transaction ended, over any store
 
 -- where it came to its end, the last call on the store was answered so
-abbrev pub EndIsShown : {S : Type 0} → (S → Exchange → S → Type 0) → (S → ℕ) → S → S → TxnId → Stage → Type 0
-EndIsShown answered calls old new id (stage.Settled outcome) = LastShows answered calls old new (ShowsEnd id outcome)
-EndIsShown answered calls old new id _ = Unit {0}
+abbrev pub EndIsShown : {S : Type 0} → Ghosts S → S → S → TxnId → Stage → Type 0
+EndIsShown store old new id (stage.Settled outcome) = LastShows store old new (ShowsEnd id outcome)
+EndIsShown store old new id _ = Unit {0}

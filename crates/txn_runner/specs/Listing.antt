@@ -5,7 +5,7 @@ use Rattle.txn_key.specs.Documents.{Docs, IsPast}
 use Rattle.txn_key.specs.Keys.{key_cmp}
 use Rattle.txn_key.specs.declared.docs.Doc.{Doc}
 use Rattle.txn_key.specs.declared.key.Key.{Key}
-use Rattle.store_trait.specs.Calls.{CallsGoOn}
+use Rattle.store_trait.specs.Stores.{CallsGoOn}
 use Rattle.store_trait.specs.Contents.{Content, is_past}
 use Rattle.store_trait.specs.declared.cell.Cell.{Cell}
 use Rattle.store_trait.specs.declared.cell.Cell.TheVariants as cell
@@ -15,6 +15,7 @@ use Rattle.store_laws.specs.Plain.{body_at}
 use Rattle.txn_runner.specs.declared.documents.Next.{Next}
 use Rattle.txn_runner.specs.declared.documents.Next.TheVariants as next
 use Rattle.txn_runner.specs.Running.{OnlyReads}
+use Rattle.store_trait.specs.declared.store.Store.{Ghosts}
 
 -- each key whose document comes after the name stands after all these documents
 abbrev pub IsListedUpTo : Name → Docs → Type 0
@@ -48,8 +49,8 @@ next_as (name.Record id) _ = next.Record id
 next_as _ _ = next.End
 
 -- the documents up to a name were listed, by calls that left a store's content as it was
-pub record IsListing {S : Type 0} (tells : Bool) (content : S → Content) (place : S → ℕ → Content) (calls faults : S → ℕ) (old now : S) (after : Name) (docs : Docs) : Type 0 where
+pub record IsListing {S : Type 0} (store : Ghosts S) (old now : S) (after : Name) (docs : Docs) : Type 0 where
   pub rising : IsListedUpTo after docs
-  pub listed : IsTrue tells → IsListOf (content old) after docs
-  pub reads : IsTrue tells → OnlyReads content place calls old now
-  pub go_on : CallsGoOn tells content place calls faults old now
+  pub listed : IsTrue store.tells → IsListOf (store.content old) after docs
+  pub reads : IsTrue store.tells → OnlyReads store old now
+  pub go_on : CallsGoOn store old now

@@ -3,7 +3,7 @@ use Rattle.std.specs.Prelude.{ℕ, ◌+◌, ◌<◌, ◌≤◌, Option, Some, No
 use Rattle.txn_key.specs.declared.key.Key.{Key}
 use Rattle.store_trait.specs.Contents.{Content}
 use Rattle.store_trait.specs.Edits.{nonce_limit}
-use Rattle.store_trait.specs.View.{doc_at, counter}
+use Rattle.store_laws.specs.View.{doc_at, counter}
 use Rattle.store_trait.specs.declared.cell.DocCell.{DocCell}
 use Rattle.txn_record.specs.declared.entry.Outcome.TheVariants as outcome
 use Rattle.txn_runner.specs.Settling.{last_revno}

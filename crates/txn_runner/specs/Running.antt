@@ -4,18 +4,19 @@ use Rattle.txn_key.specs.Documents.{Docs}
 use Rattle.txn_record.specs.declared.entry.Entry.{Entry}
 use Rattle.store_trait.specs.Contents.{Content}
 use Rattle.store_laws.specs.Trail.{IsTrail}
+use Rattle.store_trait.specs.declared.store.Store.{Ghosts}
 
 -- from the mark up to a call, each call decided nothing or one transaction, and the order tells which
-pub record HasRun (place : ℕ → Content) (mark end : ℕ) (base : Docs) (order : List Entry) : Type 0 where
+pub record HasRun (trail : ℕ → Content) (mark end : ℕ) (base : Docs) (order : List Entry) : Type 0 where
   pub made : ℕ
   pub counted : end ≡ mark + made
-  pub trail : IsTrail place mark made base order
+  pub told : IsTrail trail mark made base order
 
 -- Calls on a store with which any run goes on, to the later order.
-abbrev pub RunGoesOn : {S : Type 0} → (S → ℕ → Content) → (S → ℕ) → S → S → List Entry → List Entry → Type 0
-RunGoesOn place calls old new before after = (mark : ℕ) (base : Docs) → HasRun (place old) mark (calls old) base before → HasRun (place new) mark (calls new) base after
+abbrev pub RunGoesOn : {S : Type 0} → Ghosts S → S → S → List Entry → List Entry → Type 0
+RunGoesOn store old new before after = (mark : ℕ) (base : Docs) → HasRun (store.trail old) mark (store.calls old) base before → HasRun (store.trail new) mark (store.calls new) base after
 
 -- Calls that only read: the content is the same after each of them.
-pub record OnlyReads {S : Type 0} (content : S → Content) (place : S → ℕ → Content) (calls : S → ℕ) (old new : S) : Type 0 where
-  pub same : content new ≡ content old
-  pub still : (n : ℕ) → calls old ≤ n → n ≤ calls new → place new n ≡ content old
+pub record OnlyReads {S : Type 0} (store : Ghosts S) (old new : S) : Type 0 where
+  pub same : store.content new ≡ store.content old
+  pub still : (n : ℕ) → store.calls old ≤ n → n ≤ store.calls new → store.trail new n ≡ store.content old

@@ -10,13 +10,13 @@ use Rattle.txn_record.specs.declared.record.Record.{Record}
 use Rattle.txn_record.specs.declared.state.State.{State}
 use Rattle.txn_record.specs.declared.state.State.TheVariants as state
 use Rattle.store_trait.specs.Contents.{Content}
-use Rattle.store_trait.specs.Done.{AllPassed}
+use Rattle.store_laws.specs.Done.{AllPassed}
 use Rattle.store_trait.specs.Edits.{nonce_limit}
-use Rattle.store_trait.specs.Meaning.{meaning}
-use Rattle.store_trait.specs.Readiness.{In, token}
-use Rattle.store_trait.specs.Soundness.{IsSound}
-use Rattle.store_trait.specs.Steps.{IsStep}
-use Rattle.store_trait.specs.View.{look, record_at, doc_at, counter, IsOn}
+use Rattle.store_laws.specs.Meaning.{meaning}
+use Rattle.store_laws.specs.Readiness.{In, token}
+use Rattle.store_laws.specs.Soundness.{IsSound}
+use Rattle.store_laws.specs.Steps.{IsStep}
+use Rattle.store_laws.specs.View.{look, record_at, doc_at, counter, IsOn}
 use Rattle.store_trait.specs.declared.cell.DocCell.{DocCell}
 use Rattle.store_laws.specs.Alone.{IsAlone}
 use Rattle.store_laws.specs.Chains.{IsChainFrom}
@@ -29,6 +29,7 @@ use Rattle.txn_runner.specs.declared.error.StepError.TheVariants as step
 use Rattle.txn_runner.specs.declared.stage.Stage.{Stage}
 use Rattle.txn_runner.specs.declared.stage.Stage.TheVariants as stage
 use Rattle.txn_runner.specs.declared.waiting.Waiting.{Waiting}
+use Rattle.store_trait.specs.declared.store.Store.{Ghosts}
 
 -- ---- the transaction's record, as it is written
 
@@ -127,10 +128,10 @@ abbrev pub DecidesOnly : TxnId → List Entry → List Entry → Type 0
 DecidesOnly id before after = (among : TxnId → Bool) → among id ≡ true → list_all (λ entry. among entry.id) before ≡ true → list_all (λ entry. among entry.id) after ≡ true
 
 -- Calls for one transaction: any run goes on with them, by the decision on it at most.
-pub record WorksOn {S : Type 0} (content : S → Content) (place : S → ℕ → Content) (calls : S → ℕ) (old new : S) (before after : List Entry) (id : TxnId) : Type 0 where
-  pub run : RunGoesOn place calls old new before after
-  pub step : IsStep (content old) (content new)
-  pub others : KeepsOthers (content old) (content new) id
+pub record WorksOn {S : Type 0} (store : Ghosts S) (old new : S) (before after : List Entry) (id : TxnId) : Type 0 where
+  pub run : RunGoesOn store old new before after
+  pub step : IsStep (store.content old) (store.content new)
+  pub others : KeepsOthers (store.content old) (store.content new) id
   pub decided : DecidesOnly id before after
 
 -- ---- why a step may be refused, over a store that tells what it holds

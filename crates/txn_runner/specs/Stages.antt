@@ -1,6 +1,7 @@
 use Rattle.std.specs.Prelude.{◌≡◌, ℕ, Bool, true, IsTrue, List, Result, Ok, Err}
 use Rattle.txn_record.specs.declared.entry.Entry.{Entry}
-use Rattle.store_trait.specs.Calls.{CallsGoOn, Exchange}
+use Rattle.store_trait.specs.Calls.{Exchange}
+use Rattle.store_trait.specs.Stores.{CallsGoOn}
 use Rattle.store_trait.specs.Contents.{Content}
 use Rattle.txn_record.specs.declared.op.Op.{Op}
 use Rattle.txn_runner.specs.Built.{updates}
@@ -11,6 +12,7 @@ use Rattle.txn_runner.specs.declared.error.StepError.{StepError}
 use Rattle.txn_runner.specs.declared.waiting.Waiting.{Waiting}
 use Rattle.txn_runner.specs.declared.stage.Stage.{Stage}
 use Rattle.txn_runner.specs.declared.stage.Stage.TheVariants as stage
+use Rattle.store_trait.specs.declared.store.Store.{Ghosts}
 
 -- the most calls on the store that a transaction still takes
 abbrev pub steps_left : Stage → ℕ
@@ -42,10 +44,10 @@ UsesUpTo old new at (Ok next) = Uses old new (nonces_left at) (numbers_left at) 
 UsesUpTo old new at (Err _) = Uses old new (nonces_left at) (numbers_left at) 0 0
 
 -- between two calls for a transaction
-pub record IsSettlingOne {S : Type 0} (tells : Bool) (content : S → Content) (place : S → ℕ → Content) (calls faults : S → ℕ) (answered : S → Exchange → S → Type 0) (old now : S) (before order : List Entry) (txn : Waiting) (at : Stage) : Type 0 where
-  pub works : IsTrue tells → WorksOn content place calls old now before order txn.id
-  pub worth : IsTrue tells → IsWorth (content now) txn at
-  pub uses : IsTrue tells → Uses (content old) (content now) 1 1 (nonces_left at) (numbers_left at)
-  pub made : CallsGoOn tells content place calls faults old now
+pub record IsSettlingOne {S : Type 0} (store : Ghosts S) (old now : S) (before order : List Entry) (txn : Waiting) (at : Stage) : Type 0 where
+  pub works : IsTrue store.tells → WorksOn store old now before order txn.id
+  pub worth : IsTrue store.tells → IsWorth (store.content now) txn at
+  pub uses : IsTrue store.tells → Uses (store.content old) (store.content now) 1 1 (nonces_left at) (numbers_left at)
+  pub made : CallsGoOn store old now
   pub suits : suits txn.ops at ≡ true
-  pub shown : EndIsShown answered calls old now txn.id at
+  pub shown : EndIsShown store old now txn.id at

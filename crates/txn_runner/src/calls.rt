@@ -1,10 +1,11 @@
 //! The calls on the store that a step makes, each one, with the refusals of a step.
 
-ghost use Rattle.std.specs.Prelude.{◌≡◌, IsTrue, true, Some, OnOk, OnErr, IfOk, IfErr, is_some};
+ghost use Rattle.std.specs.Prelude.{◌≡◌, IsTrue, true, Some, Ok, OnOk, OnErr, IfOk, IfErr, is_some};
 ghost use Rattle.std.specs.FinMap.{get};
 ghost use Rattle.store_trait.specs.Edits.{hit, edited};
-ghost use Rattle.store_trait.specs.Calls.{OneCall, Edits, Reads};
-ghost use Rattle.store_trait.specs.View.{doc_at};
+ghost use Rattle.store_trait.specs.Calls.{Edits, Reads, IsMade};
+ghost use Rattle.store_trait.specs.Stores.{OneCall};
+ghost use Rattle.store_laws.specs.View.{doc_at};
 ghost use Rattle.store_trait.specs.declared.cell.Cell.TheVariants.{Doc as CellDoc};
 ghost use Rattle.txn_runner.specs.Causes.{AnsweredEdit, HasCause, IsMissed, IsOfStore};
 
@@ -20,14 +21,13 @@ pub fn edit<S: Store>(
     name: &Name,
     change: &Edit,
 ) -> Result<Edited, StepError>
-    ensures made { IsTrue S.tells → OnOk result (S.content store.new ≡ edited (S.content store.old) name.now change.now) }
-    ensures hit { IsTrue S.tells → IfOk result
-        (λ done. done.hit ≡ is_some (hit change.now name.now (get (S.content store.old) name.now))) }
-    ensures after { IsTrue S.tells → IfOk result (λ done. done.cell ≡ get (S.content store.new) name.now) }
+    ensures made { IsTrue S.tells → IfOk result
+        (IsMade (S.content store.old) name.now change.now (S.content store.new)) }
     ensures left { IsTrue S.tells → OnErr result (S.content store.new ≡ S.content store.old) }
     ensures kind { IfErr result IsOfStore }
-    ensures answered { IfOk result (λ done. S.answered store.old (Edits name.now change.now done.hit done.cell) store.new) }
-    ensures call { OneCall S.tells S.content S.place S.calls S.faults store.old store.new result StepError.StoreFault }
+    ensures answered { IfOk result
+        (λ done. S.answered store.old (Edits name.now change.now (Ok done)) store.new) }
+    ensures call { OneCall S.Store store.old store.new result StepError.StoreFault }
 {
     Ok(store.edit(alloc, name, change)?)
 }
@@ -37,8 +37,8 @@ pub fn read<S: Store>(alloc: Global, store: &mut S, name: &Name) -> Result<Optio
     ensures found { IsTrue S.tells → IfOk result (λ found. found ≡ get (S.content store.old) name.now) }
     ensures same { IsTrue S.tells → S.content store.new ≡ S.content store.old }
     ensures kind { IfErr result IsOfStore }
-    ensures answered { IfOk result (λ found. S.answered store.old (Reads name.now found) store.new) }
-    ensures call { OneCall S.tells S.content S.place S.calls S.faults store.old store.new result StepError.StoreFault }
+    ensures answered { IfOk result (λ found. S.answered store.old (Reads name.now (Ok found)) store.new) }
+    ensures call { OneCall S.Store store.old store.new result StepError.StoreFault }
 {
     Ok(store.read(alloc, name)?)
 }
@@ -56,9 +56,9 @@ pub fn must_hit<S: Store>(
     ensures left { IsTrue S.tells → is_some (hit change name (get (S.content store.old) name)) ≡ true →
         OnErr result (S.content store.new ≡ S.content store.old) }
     ensures never { IsTrue S.tells → is_some (hit change name (get (S.content store.old) name)) ≡ true → IfErr result IsOfStore }
-    ensures hit { OnOk result (AnsweredEdit S.answered S.calls store.old name change true store.new) }
-    ensures cause { IfErr result (IsMissed S.answered S.calls store.old id name change store.new) }
-    ensures call { OneCall S.tells S.content S.place S.calls S.faults store.old store.new result StepError.StoreFault }
+    ensures hit { OnOk result (AnsweredEdit S.Store store.old name change true store.new) }
+    ensures cause { IfErr result (IsMissed S.Store store.old id name change store.new) }
+    ensures call { OneCall S.Store store.old store.new result StepError.StoreFault }
 {
     let edited = edit(alloc, store, &name, &change)?;
     if edited.hit {
@@ -79,9 +79,9 @@ pub fn may_hit<S: Store>(
     ensures hit { IsTrue S.tells → IfOk result
         (λ hits. hits ≡ is_some (hit change name (get (S.content store.old) name))) }
     ensures left { IsTrue S.tells → OnErr result (S.content store.new ≡ S.content store.old) }
-    ensures answered { IfOk result (λ hits. AnsweredEdit S.answered S.calls store.old name change hits store.new) }
+    ensures answered { IfOk result (λ hits. AnsweredEdit S.Store store.old name change hits store.new) }
     ensures kind { IfErr result IsOfStore }
-    ensures call { OneCall S.tells S.content S.place S.calls S.faults store.old store.new result StepError.StoreFault }
+    ensures call { OneCall S.Store store.old store.new result StepError.StoreFault }
 {
     let edited = edit(alloc, store, &name, &change)?;
     Ok(edited.hit)
@@ -96,10 +96,10 @@ pub fn read_document<S: Store>(
 ) -> Result<DocCell, StepError>
     ensures found { IsTrue S.tells → IfOk result (λ doc. doc_at (S.content store.old) key.now ≡ Some doc) }
     ensures same { IsTrue S.tells → S.content store.new ≡ S.content store.old }
-    ensures answered { IfOk result (λ doc. S.answered store.old (Reads (Name.Doc key.now) (Some (CellDoc doc))) store.new) }
-    ensures cause { IfErr result (HasCause S.answered S.calls store.old store.new id) }
+    ensures answered { IfOk result (λ doc. S.answered store.old (Reads (Name.Doc key.now) (Ok (Some (CellDoc doc)))) store.new) }
+    ensures cause { IfErr result (HasCause S.Store store.old store.new id) }
     ensures never { IsTrue S.tells → is_some (doc_at (S.content store.old) key.now) ≡ true → IfErr result IsOfStore }
-    ensures call { OneCall S.tells S.content S.place S.calls S.faults store.old store.new result StepError.StoreFault }
+    ensures call { OneCall S.Store store.old store.new result StepError.StoreFault }
 {
     let name = Name::Doc(key.copy(alloc)?);
     let found = read(alloc, store, &name)?;

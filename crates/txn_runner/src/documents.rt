@@ -1,8 +1,9 @@
 //! The documents of a store, by one call for each and one more.
 
 ghost use Rattle.std.specs.Prelude.{◌≡◌, IsTrue, IfOk, IfErr, IsErrOf};
-ghost use Rattle.store_trait.specs.Calls.{CallsGoOn, OneCall, Rose};
-ghost use Rattle.store_trait.specs.Meaning.{bodies};
+ghost use Rattle.store_trait.specs.Calls.{Rose};
+ghost use Rattle.store_trait.specs.Stores.{CallsGoOn, OneCall};
+ghost use Rattle.store_laws.specs.Meaning.{bodies};
 ghost use Rattle.store_laws.specs.Plain.{IsPlain};
 ghost use Rattle.txn_runner.specs.Causes.{IsOfStore};
 ghost use Rattle.txn_runner.specs.Listing.{StandsPast, IsNext, next_as};
@@ -17,9 +18,9 @@ use txn_key::{Doc, Docs, TxnId, documents_rise};
 /// The documents, in the order of their keys.
 pub fn list_documents<S: Store>(alloc: Global, store: &mut S) -> Result<Docs, StepError>
     ensures listed { IsTrue S.tells → IsPlain (S.content store.old) → IfOk result (λ docs. docs ≡ bodies (S.content store.old)) }
-    ensures reads { IsTrue S.tells → OnlyReads S.content S.place S.calls store.old store.new }
+    ensures reads { IsTrue S.tells → OnlyReads S.Store store.old store.new }
     ensures kind { IfErr result IsOfStore }
-    ensures calls { CallsGoOn S.tells S.content S.place S.calls S.faults store.old store.new }
+    ensures calls { CallsGoOn S.Store store.old store.new }
     ensures fault { IsErrOf result StepError.StoreFault → Rose (S.faults store.old) (S.faults store.new) }
 {
     documents_rise();
@@ -55,7 +56,7 @@ fn next_listed<S: Store>(alloc: Global, store: &mut S, after: &Name) -> Result<N
     ensures found { IsTrue S.tells → IfOk result (IsNext (S.content store.old) after.now) }
     ensures same { IsTrue S.tells → S.content store.new ≡ S.content store.old }
     ensures kind { IfErr result IsOfStore }
-    ensures call { OneCall S.tells S.content S.place S.calls S.faults store.old store.new result StepError.StoreFault }
+    ensures call { OneCall S.Store store.old store.new result StepError.StoreFault }
 {
     match store.next(alloc, Some(after))? {
         None => Ok(Next::End),

@@ -1,8 +1,9 @@
 //! How a runner settles one transaction after the other.
 
 ghost use Rattle.std.specs.Prelude.{◌≡◌, ◌<◌, true, false, IsTrue, IfOk, IfErr, OnErr, IsErrOf};
-ghost use Rattle.store_trait.specs.Calls.{CallsGoOn, OneCall, Rose};
-ghost use Rattle.store_trait.specs.View.{record_at};
+ghost use Rattle.store_trait.specs.Calls.{Rose};
+ghost use Rattle.store_trait.specs.Stores.{CallsGoOn, OneCall};
+ghost use Rattle.store_laws.specs.View.{record_at};
 ghost use Rattle.txn_runner.specs.Causes.{EndIsShown, HasCause, LastShows, ShowsEnd};
 ghost use Rattle.txn_runner.specs.Settling.{IsWorth, WorksOn, ComesToStage, MayStop, has_ended};
 ghost use Rattle.txn_runner.specs.Built.{is_built};
@@ -28,17 +29,17 @@ pub fn settle<S: Store>(
     requires worth { IsTrue S.tells → IsWorth (S.content store.old) txn.now Stage.Draw }
     requires built { is_built txn.now.ops ≡ true }
     ensures works { IsTrue S.tells →
-        WorksOn S.content S.place S.calls store.old store.new order.old.items order.new.items txn.now.id }
+        WorksOn S.Store store.old store.new order.old.items order.new.items txn.now.id }
     ensures settled { IsTrue S.tells → IfOk result
         (λ outcome. IsWorth (S.content store.new) txn.now (Stage.Settled outcome)) }
-    ensures shown { IfOk result (λ outcome. LastShows S.answered S.calls store.old store.new (ShowsEnd txn.now.id outcome)) }
+    ensures shown { IfOk result (λ outcome. LastShows S.Store store.old store.new (ShowsEnd txn.now.id outcome)) }
     ensures unended { IsTrue S.tells → OnErr result (has_ended (S.content store.new) txn.now.id ≡ false) }
     ensures reason { IsTrue S.tells → IfErr result (MayStop (S.content store.new)) }
-    ensures cause { IfErr result (HasCause S.answered S.calls store.old store.new txn.now.id) }
+    ensures cause { IfErr result (HasCause S.Store store.old store.new txn.now.id) }
     ensures uses { IsTrue S.tells → Uses (S.content store.old) (S.content store.new) 1 1 0 0 }
     ensures spares { IsTrue S.tells → IfOk result
         (λ outcome. Uses (S.content store.old) (S.content store.new) 1 1 0 (numbers_left (Stage.Settled outcome))) }
-    ensures calls { CallsGoOn S.tells S.content S.place S.calls S.faults store.old store.new }
+    ensures calls { CallsGoOn S.Store store.old store.new }
     ensures fault { IsErrOf result StepError.StoreFault → Rose (S.faults store.old) (S.faults store.new) }
 {
     let mut stage = Stage::Draw;
@@ -63,15 +64,15 @@ fn advance<S: Store>(
     requires built { is_built txn.now.ops ≡ true }
     requires suits { suits txn.now.ops stage ≡ true }
     ensures works { IsTrue S.tells →
-        WorksOn S.content S.place S.calls store.old store.new order.old.items order.new.items txn.now.id }
+        WorksOn S.Store store.old store.new order.old.items order.new.items txn.now.id }
     ensures comes { IsTrue S.tells → ComesToStage (S.content store.new) txn.now result }
     ensures stays { IsTrue S.tells → OnErr result (record_at (S.content store.new) txn.now.id ≡ record_at (S.content store.old) txn.now.id) }
-    ensures shown { IfOk result (λ next. EndIsShown S.answered S.calls store.old store.new txn.now.id next) }
+    ensures shown { IfOk result (λ next. EndIsShown S.Store store.old store.new txn.now.id next) }
     ensures nearer { IfOk result (λ next. steps_left next < steps_left stage) }
     ensures uses { IsTrue S.tells → UsesUpTo (S.content store.old) (S.content store.new) stage result }
     ensures suits { IfOk result (λ next. suits txn.now.ops next ≡ true) }
-    ensures cause { IfErr result (HasCause S.answered S.calls store.old store.new txn.now.id) }
-    ensures call { OneCall S.tells S.content S.place S.calls S.faults store.old store.new result StepError.StoreFault }
+    ensures cause { IfErr result (HasCause S.Store store.old store.new txn.now.id) }
+    ensures call { OneCall S.Store store.old store.new result StepError.StoreFault }
 {
     match stage {
         Stage::Draw => steps::draw(alloc, store, txn),

@@ -4,10 +4,10 @@
 ghost use Rattle.std.specs.Prelude.{◌≡◌, ◌<◌, ℕ, List, [], ◌∷◌, true, false, None, IsTrue, IfOk, IfErr, OnOk, OnErr, is_some, ◌++◌};
 ghost use Rattle.std.specs.FinMap.{get};
 ghost use Rattle.store_trait.specs.Edits.{hit, edited};
-ghost use Rattle.store_trait.specs.Calls.{OneCall};
+ghost use Rattle.store_trait.specs.Stores.{OneCall};
 ghost use Rattle.txn_record.specs.declared.entry.Entry.{Entry as LogEntry};
 ghost use Rattle.txn_record.specs.Revnos.{has_effect};
-ghost use Rattle.store_trait.specs.View.{record_at};
+ghost use Rattle.store_laws.specs.View.{record_at};
 ghost use Rattle.txn_runner.specs.Calm.{IsCalm};
 ghost use Rattle.txn_runner.specs.Causes.{AnsweredEdit, EndIsShown, HasCause, IsMissed, IsOfStore, LastShows, ShowsRepeated, drawn_of};
 ghost use Rattle.txn_runner.specs.Settling.{IsWorth, WorksOn, ComesToStage, IsSubmitted, preparing_record};
@@ -36,17 +36,17 @@ pub fn submit<S: Store>(alloc: Global, store: &mut S, txn: &Waiting) -> Result<b
     requires calm { IsTrue S.tells → IsCalm (S.content store.old) }
     requires fresh { IsTrue S.tells → record_at (S.content store.old) txn.now.id ≡ None }
     ensures works { IsTrue S.tells → (order : List LogEntry) →
-        WorksOn S.content S.place S.calls store.old store.new order order txn.now.id }
+        WorksOn S.Store store.old store.new order order txn.now.id }
     ensures calm { IsTrue S.tells → IsCalm (S.content store.new) }
     ensures stands { IsTrue S.tells → IfOk result
         (λ hits. (hits ≡ true) × IsSubmitted (S.content store.new) txn.now) }
     ensures stays { IsTrue S.tells → OnErr result (record_at (S.content store.new) txn.now.id ≡ record_at (S.content store.old) txn.now.id) }
     ensures uses { IsTrue S.tells → Uses (S.content store.old) (S.content store.new) 0 0 0 0 }
     ensures kind { IfErr result IsOfStore }
-    ensures answered { IfOk result (λ hits. AnsweredEdit S.answered S.calls store.old (Name.Record txn.now.id) (Edit.InsertRecord (preparing_record txn.now)) hits store.new) }
+    ensures answered { IfOk result (λ hits. AnsweredEdit S.Store store.old (Name.Record txn.now.id) (Edit.InsertRecord (preparing_record txn.now)) hits store.new) }
     ensures repeated { IfOk result (λ hits. hits ≡ false →
-        LastShows S.answered S.calls store.old store.new (ShowsRepeated txn.now.id)) }
-    ensures call { OneCall S.tells S.content S.place S.calls S.faults store.old store.new result StepError.StoreFault }
+        LastShows S.Store store.old store.new (ShowsRepeated txn.now.id)) }
+    ensures call { OneCall S.Store store.old store.new result StepError.StoreFault }
 {
     let rec = preparing(alloc, txn)?;
     let change = Edit::InsertRecord { rec };
@@ -72,15 +72,15 @@ fn preparing(alloc: Global, txn: &Waiting) -> Result<Record, OutOfMemory>
 pub fn draw<S: Store>(alloc: Global, store: &mut S, txn: &Waiting) -> Result<Stage, StepError>
     requires worth { IsTrue S.tells → IsWorth (S.content store.old) txn.now Stage.Draw }
     ensures works { IsTrue S.tells → (order : List LogEntry) →
-        WorksOn S.content S.place S.calls store.old store.new order order txn.now.id }
+        WorksOn S.Store store.old store.new order order txn.now.id }
     ensures comes { IsTrue S.tells → ComesToStage (S.content store.new) txn.now result }
     ensures stays { IsTrue S.tells → OnErr result (record_at (S.content store.new) txn.now.id ≡ record_at (S.content store.old) txn.now.id) }
     ensures nearer { IfOk result (λ next. steps_left next ≡ 6) }
     ensures uses { IsTrue S.tells → UsesUpTo (S.content store.old) (S.content store.new) Stage.Draw result }
     ensures suits { IfOk result (λ next. suits txn.now.ops next ≡ true) }
-    ensures shown { IfOk result (λ next. EndIsShown S.answered S.calls store.old store.new txn.now.id next) }
-    ensures cause { IfErr result (HasCause S.answered S.calls store.old store.new txn.now.id) }
-    ensures call { OneCall S.tells S.content S.place S.calls S.faults store.old store.new result StepError.StoreFault }
+    ensures shown { IfOk result (λ next. EndIsShown S.Store store.old store.new txn.now.id next) }
+    ensures cause { IfErr result (HasCause S.Store store.old store.new txn.now.id) }
+    ensures call { OneCall S.Store store.old store.new result StepError.StoreFault }
 {
     let drawn = edit(alloc, store, &Name::Nonce, &Edit::DrawNonce)?;
     let nonce = read_drawn(txn.id, drawn.hit, counter_in(drawn.cell))?;
@@ -111,16 +111,16 @@ pub fn queue<S: Store>(
     requires worth { IsTrue S.tells → IsWorth (S.content store.old) txn.now (Stage.Queue nonce) }
     requires built { is_built txn.now.ops ≡ true }
     ensures works { IsTrue S.tells → (order : List LogEntry) →
-        WorksOn S.content S.place S.calls store.old store.new order order txn.now.id }
+        WorksOn S.Store store.old store.new order order txn.now.id }
     ensures comes { IsTrue S.tells → ComesToStage (S.content store.new) txn.now result }
     ensures stays { IsTrue S.tells → OnErr result (record_at (S.content store.new) txn.now.id ≡ record_at (S.content store.old) txn.now.id) }
     ensures drawn { IfOk result (λ next. next ≡ Stage.Prepare nonce) }
     ensures nearer { IfOk result (λ next. steps_left next ≡ 5) }
     ensures uses { IsTrue S.tells → UsesUpTo (S.content store.old) (S.content store.new) (Stage.Queue nonce) result }
     ensures suits { IfOk result (λ next. suits txn.now.ops next ≡ true) }
-    ensures shown { IfOk result (λ next. EndIsShown S.answered S.calls store.old store.new txn.now.id next) }
-    ensures cause { IfErr result (HasCause S.answered S.calls store.old store.new txn.now.id) }
-    ensures call { OneCall S.tells S.content S.place S.calls S.faults store.old store.new result StepError.StoreFault }
+    ensures shown { IfOk result (λ next. EndIsShown S.Store store.old store.new txn.now.id next) }
+    ensures cause { IfErr result (HasCause S.Store store.old store.new txn.now.id) }
+    ensures call { OneCall S.Store store.old store.new result StepError.StoreFault }
 {
     let id = txn.id;
     let name = Name::Doc(only(&txn.ops).key.copy(alloc)?);
@@ -138,15 +138,15 @@ pub fn prepare<S: Store>(
 ) -> Result<Stage, StepError>
     requires worth { IsTrue S.tells → IsWorth (S.content store.old) txn.now (Stage.Prepare nonce) }
     ensures works { IsTrue S.tells → (order : List LogEntry) →
-        WorksOn S.content S.place S.calls store.old store.new order order txn.now.id }
+        WorksOn S.Store store.old store.new order order txn.now.id }
     ensures comes { IsTrue S.tells → ComesToStage (S.content store.new) txn.now result }
     ensures stays { IsTrue S.tells → OnErr result (record_at (S.content store.new) txn.now.id ≡ record_at (S.content store.old) txn.now.id) }
     ensures nearer { IfOk result (λ next. steps_left next ≡ 4) }
     ensures uses { IsTrue S.tells → UsesUpTo (S.content store.old) (S.content store.new) (Stage.Prepare nonce) result }
     ensures suits { IfOk result (λ next. suits txn.now.ops next ≡ true) }
-    ensures shown { IfOk result (λ next. EndIsShown S.answered S.calls store.old store.new txn.now.id next) }
-    ensures cause { IfErr result (HasCause S.answered S.calls store.old store.new txn.now.id) }
-    ensures call { OneCall S.tells S.content S.place S.calls S.faults store.old store.new result StepError.StoreFault }
+    ensures shown { IfOk result (λ next. EndIsShown S.Store store.old store.new txn.now.id next) }
+    ensures cause { IfErr result (HasCause S.Store store.old store.new txn.now.id) }
+    ensures call { OneCall S.Store store.old store.new result StepError.StoreFault }
 {
     let change = Edit::Move {
         from: State::Preparing,
@@ -168,15 +168,15 @@ pub fn look<S: Store>(
     requires worth { IsTrue S.tells → IsWorth (S.content store.old) txn.now (Stage.Look nonce) }
     requires built { is_built txn.now.ops ≡ true }
     ensures works { IsTrue S.tells → (order : List LogEntry) →
-        WorksOn S.content S.place S.calls store.old store.new order order txn.now.id }
+        WorksOn S.Store store.old store.new order order txn.now.id }
     ensures comes { IsTrue S.tells → ComesToStage (S.content store.new) txn.now result }
     ensures stays { IsTrue S.tells → OnErr result (record_at (S.content store.new) txn.now.id ≡ record_at (S.content store.old) txn.now.id) }
     ensures nearer { IfOk result (λ next. steps_left next ≡ 3) }
     ensures uses { IsTrue S.tells → UsesUpTo (S.content store.old) (S.content store.new) (Stage.Look nonce) result }
     ensures suits { IfOk result (λ next. suits txn.now.ops next ≡ true) }
-    ensures shown { IfOk result (λ next. EndIsShown S.answered S.calls store.old store.new txn.now.id next) }
-    ensures cause { IfErr result (HasCause S.answered S.calls store.old store.new txn.now.id) }
-    ensures call { OneCall S.tells S.content S.place S.calls S.faults store.old store.new result StepError.StoreFault }
+    ensures shown { IfOk result (λ next. EndIsShown S.Store store.old store.new txn.now.id next) }
+    ensures cause { IfErr result (HasCause S.Store store.old store.new txn.now.id) }
+    ensures call { OneCall S.Store store.old store.new result StepError.StoreFault }
 {
     let op = only(&txn.ops);
     let key = op.key.copy(alloc)?;
@@ -206,15 +206,15 @@ pub fn decide<S: Store>(
     requires worth { IsTrue S.tells → IsWorth (S.content store.old) txn.now (Stage.Decide nonce revno holds) }
     requires built { is_built txn.now.ops ≡ true }
     ensures works { IsTrue S.tells →
-        WorksOn S.content S.place S.calls store.old store.new order.old.items order.new.items txn.now.id }
+        WorksOn S.Store store.old store.new order.old.items order.new.items txn.now.id }
     ensures comes { IsTrue S.tells → ComesToStage (S.content store.new) txn.now result }
     ensures stays { IsTrue S.tells → OnErr result (record_at (S.content store.new) txn.now.id ≡ record_at (S.content store.old) txn.now.id) }
     ensures nearer { IfOk result (λ next. steps_left next < 3) }
     ensures uses { IsTrue S.tells → UsesUpTo (S.content store.old) (S.content store.new) (Stage.Decide nonce revno holds) result }
     ensures suits { IfOk result (λ next. suits txn.now.ops next ≡ true) }
-    ensures shown { IfOk result (λ next. EndIsShown S.answered S.calls store.old store.new txn.now.id next) }
-    ensures cause { IfErr result (HasCause S.answered S.calls store.old store.new txn.now.id) }
-    ensures call { OneCall S.tells S.content S.place S.calls S.faults store.old store.new result StepError.StoreFault }
+    ensures shown { IfOk result (λ next. EndIsShown S.Store store.old store.new txn.now.id next) }
+    ensures cause { IfErr result (HasCause S.Store store.old store.new txn.now.id) }
+    ensures call { OneCall S.Store store.old store.new result StepError.StoreFault }
 {
     if holds {
         decide_to_apply(alloc, store, order, txn, nonce, revno)
@@ -235,15 +235,15 @@ fn decide_to_apply<S: Store>(
     requires worth { IsTrue S.tells → IsWorth (S.content store.old) txn.now (Stage.Decide nonce revno true) }
     requires built { is_built txn.now.ops ≡ true }
     ensures works { IsTrue S.tells →
-        WorksOn S.content S.place S.calls store.old store.new order.old.items order.new.items txn.now.id }
+        WorksOn S.Store store.old store.new order.old.items order.new.items txn.now.id }
     ensures comes { IsTrue S.tells → ComesToStage (S.content store.new) txn.now result }
     ensures stays { IsTrue S.tells → OnErr result (record_at (S.content store.new) txn.now.id ≡ record_at (S.content store.old) txn.now.id) }
     ensures nearer { IfOk result (λ next. steps_left next < 3) }
     ensures uses { IsTrue S.tells → UsesUpTo (S.content store.old) (S.content store.new) (Stage.Decide nonce revno true) result }
     ensures suits { IfOk result (λ next. suits txn.now.ops next ≡ true) }
-    ensures shown { IfOk result (λ next. EndIsShown S.answered S.calls store.old store.new txn.now.id next) }
-    ensures cause { IfErr result (HasCause S.answered S.calls store.old store.new txn.now.id) }
-    ensures call { OneCall S.tells S.content S.place S.calls S.faults store.old store.new result StepError.StoreFault }
+    ensures shown { IfOk result (λ next. EndIsShown S.Store store.old store.new txn.now.id next) }
+    ensures cause { IfErr result (HasCause S.Store store.old store.new txn.now.id) }
+    ensures call { OneCall S.Store store.old store.new result StepError.StoreFault }
 {
     let revnos = Items::from_slice(alloc, &[revno])?;
     let change = Edit::Move {
@@ -282,15 +282,15 @@ fn decide_to_abort<S: Store>(
 ) -> Result<Stage, StepError>
     requires worth { IsTrue S.tells → IsWorth (S.content store.old) txn.now (Stage.Decide nonce revno false) }
     ensures works { IsTrue S.tells →
-        WorksOn S.content S.place S.calls store.old store.new order.old.items order.new.items txn.now.id }
+        WorksOn S.Store store.old store.new order.old.items order.new.items txn.now.id }
     ensures comes { IsTrue S.tells → ComesToStage (S.content store.new) txn.now result }
     ensures stays { IsTrue S.tells → OnErr result (record_at (S.content store.new) txn.now.id ≡ record_at (S.content store.old) txn.now.id) }
     ensures nearer { IfOk result (λ next. steps_left next < 3) }
     ensures uses { IsTrue S.tells → UsesUpTo (S.content store.old) (S.content store.new) (Stage.Decide nonce revno false) result }
     ensures suits { IfOk result (λ next. suits txn.now.ops next ≡ true) }
-    ensures shown { IfOk result (λ next. EndIsShown S.answered S.calls store.old store.new txn.now.id next) }
-    ensures cause { IfErr result (HasCause S.answered S.calls store.old store.new txn.now.id) }
-    ensures call { OneCall S.tells S.content S.place S.calls S.faults store.old store.new result StepError.StoreFault }
+    ensures shown { IfOk result (λ next. EndIsShown S.Store store.old store.new txn.now.id next) }
+    ensures cause { IfErr result (HasCause S.Store store.old store.new txn.now.id) }
+    ensures call { OneCall S.Store store.old store.new result StepError.StoreFault }
 {
     let change = Edit::Move {
         from: State::Prepared,
@@ -321,8 +321,8 @@ fn record_decision<S: Store>(
         OnErr result (S.content store.new ≡ S.content store.old) }
     ensures never { IsTrue S.tells → is_some (hit change (Name.Record txn.now.id) (get (S.content store.old) (Name.Record txn.now.id))) ≡ true →
         IfErr result IsOfStore }
-    ensures cause { IfErr result (IsMissed S.answered S.calls store.old txn.now.id (Name.Record txn.now.id) change store.new) }
-    ensures call { OneCall S.tells S.content S.place S.calls S.faults store.old store.new result StepError.StoreFault }
+    ensures cause { IfErr result (IsMissed S.Store store.old txn.now.id (Name.Record txn.now.id) change store.new) }
+    ensures call { OneCall S.Store store.old store.new result StepError.StoreFault }
 {
     let mut entry = entry_of(alloc, txn, outcome, revnos)?;
     order.reserve(1)?;
@@ -366,15 +366,15 @@ pub fn update<S: Store>(
     requires built { is_built txn.now.ops ≡ true }
     requires updates { updates txn.now.ops ≡ true }
     ensures works { IsTrue S.tells → (order : List LogEntry) →
-        WorksOn S.content S.place S.calls store.old store.new order order txn.now.id }
+        WorksOn S.Store store.old store.new order order txn.now.id }
     ensures comes { IsTrue S.tells → ComesToStage (S.content store.new) txn.now result }
     ensures stays { IsTrue S.tells → OnErr result (record_at (S.content store.new) txn.now.id ≡ record_at (S.content store.old) txn.now.id) }
     ensures nearer { IfOk result (λ next. steps_left next ≡ 1) }
     ensures uses { IsTrue S.tells → UsesUpTo (S.content store.old) (S.content store.new) (Stage.Update nonce revno) result }
     ensures suits { IfOk result (λ next. suits txn.now.ops next ≡ true) }
-    ensures shown { IfOk result (λ next. EndIsShown S.answered S.calls store.old store.new txn.now.id next) }
-    ensures cause { IfErr result (HasCause S.answered S.calls store.old store.new txn.now.id) }
-    ensures call { OneCall S.tells S.content S.place S.calls S.faults store.old store.new result StepError.StoreFault }
+    ensures shown { IfOk result (λ next. EndIsShown S.Store store.old store.new txn.now.id next) }
+    ensures cause { IfErr result (HasCause S.Store store.old store.new txn.now.id) }
+    ensures call { OneCall S.Store store.old store.new result StepError.StoreFault }
 {
     let op = only(&txn.ops);
     let name = Name::Doc(op.key.copy(alloc)?);
@@ -393,15 +393,15 @@ pub fn update<S: Store>(
 pub fn finish<S: Store>(alloc: Global, store: &mut S, txn: &Waiting) -> Result<Stage, StepError>
     requires worth { IsTrue S.tells → IsWorth (S.content store.old) txn.now Stage.Finish }
     ensures works { IsTrue S.tells → (order : List LogEntry) →
-        WorksOn S.content S.place S.calls store.old store.new order order txn.now.id }
+        WorksOn S.Store store.old store.new order order txn.now.id }
     ensures comes { IsTrue S.tells → ComesToStage (S.content store.new) txn.now result }
     ensures stays { IsTrue S.tells → OnErr result (record_at (S.content store.new) txn.now.id ≡ record_at (S.content store.old) txn.now.id) }
     ensures nearer { IfOk result (λ next. steps_left next ≡ 0) }
     ensures uses { IsTrue S.tells → UsesUpTo (S.content store.old) (S.content store.new) Stage.Finish result }
     ensures suits { IfOk result (λ next. suits txn.now.ops next ≡ true) }
-    ensures shown { IfOk result (λ next. EndIsShown S.answered S.calls store.old store.new txn.now.id next) }
-    ensures cause { IfErr result (HasCause S.answered S.calls store.old store.new txn.now.id) }
-    ensures call { OneCall S.tells S.content S.place S.calls S.faults store.old store.new result StepError.StoreFault }
+    ensures shown { IfOk result (λ next. EndIsShown S.Store store.old store.new txn.now.id next) }
+    ensures cause { IfErr result (HasCause S.Store store.old store.new txn.now.id) }
+    ensures call { OneCall S.Store store.old store.new result StepError.StoreFault }
 {
     let change = Edit::Move {
         from: State::Applying,
@@ -417,15 +417,15 @@ pub fn finish<S: Store>(alloc: Global, store: &mut S, txn: &Waiting) -> Result<S
 pub fn abort<S: Store>(alloc: Global, store: &mut S, txn: &Waiting) -> Result<Stage, StepError>
     requires worth { IsTrue S.tells → IsWorth (S.content store.old) txn.now Stage.Abort }
     ensures works { IsTrue S.tells → (order : List LogEntry) →
-        WorksOn S.content S.place S.calls store.old store.new order order txn.now.id }
+        WorksOn S.Store store.old store.new order order txn.now.id }
     ensures comes { IsTrue S.tells → ComesToStage (S.content store.new) txn.now result }
     ensures stays { IsTrue S.tells → OnErr result (record_at (S.content store.new) txn.now.id ≡ record_at (S.content store.old) txn.now.id) }
     ensures nearer { IfOk result (λ next. steps_left next ≡ 0) }
     ensures uses { IsTrue S.tells → UsesUpTo (S.content store.old) (S.content store.new) Stage.Abort result }
     ensures suits { IfOk result (λ next. suits txn.now.ops next ≡ true) }
-    ensures shown { IfOk result (λ next. EndIsShown S.answered S.calls store.old store.new txn.now.id next) }
-    ensures cause { IfErr result (HasCause S.answered S.calls store.old store.new txn.now.id) }
-    ensures call { OneCall S.tells S.content S.place S.calls S.faults store.old store.new result StepError.StoreFault }
+    ensures shown { IfOk result (λ next. EndIsShown S.Store store.old store.new txn.now.id next) }
+    ensures cause { IfErr result (HasCause S.Store store.old store.new txn.now.id) }
+    ensures call { OneCall S.Store store.old store.new result StepError.StoreFault }
 {
     let change = Edit::Move {
         from: State::Aborting,

@@ -5,6 +5,6 @@ use Rattle.store_laws.proofs.histories.reading_an_order.Goals as goal
 
 pub returns : goal.returns
 returns g = record {
-  keeps = λ place mark n base order t. All-from_recursion (IsKept _) order (trail_keeps place mark n base order t);
-  tells = λ place mark n base order id rec t there chose. trail_records place mark n base order t id rec there chose;
+  keeps = λ trail mark n base order t. All-from_recursion (IsKept _) order (trail_keeps trail mark n base order t);
+  tells = λ trail mark n base order id rec t there chose. trail_records trail mark n base order t id rec there chose;
 }

@@ -8,6 +8,6 @@ pub returns : goal.returns
 returns g = record {
   faithful = trail_faithful;
   legal = trail_legal;
-  means = λ place mark n base order t. means_at place mark n base order t n (omega arith) ∙ ap (after base) (sym t.order_is);
-  steps = λ place mark n base order j k t le within. steps_between place mark n base order t j k le within;
+  means = λ trail mark n base order t. means_at trail mark n base order t n (omega arith) ∙ ap (after base) (sym t.order_is);
+  steps = λ trail mark n base order j k t le within. steps_between trail mark n base order t j k le within;
 }

@@ -20,7 +20,7 @@ loop-done-init g c = rw c.new-lines.ensures (record {
   made = c.in_ok-session.ensures.calls;
   was_empty = λ told. c.in_ok-session.ensures.answer told;
   none_run = λ e. c.requires.begins.runs;
-  held = λ told was. begins_held g.S.Store.content g.S.Store.place g.S.Store.calls c.args.session.now _ c.requires.begins (sym (c.in_ok-session.ensures.answer told) ∙ was) (c.in_ok-session.ensures.same told) refl refl refl;
+  held = λ told was. begins_held g.S.Store.content g.S.Store.trail g.S.Store.calls c.args.session.now _ c.requires.begins (sym (c.in_ok-session.ensures.answer told) ∙ was) (c.in_ok-session.ensures.same told) refl refl refl;
   come = λ src told. begins_come g.S.Store.content c.args.session.now _ (g.I.Source.rest c.args.input.now) g.O.Sink.tells (g.O.Sink.written c.args.output.now) c.requires.begins _ _ _ c.in_ok-session.ensures.calls.counted (c.in_ok-session.ensures.same told) (c.in_ok-session.ensures.answer told) refl refl refl;
 })
 
@@ -41,7 +41,7 @@ loop-done-preserved g c =
       held = λ told was. played.held told (sym played.kept ∙ was);
       come = λ src told.
           let next = next_is _ _ _ _ _ _ _ (it.come src told).plays (rw c.in-Ok-Some.field-0-is at (c.in-Ok-Some.ensures.line src)) in
-          comes_further g.S.Store.content g.S.Store.place g.S.Store.calls _ _ _ _ _ _ _ _ _ _ _ _ _ (played.calls.trail told).before played.calls.counted (it.come src told) next _ _ (rw c.as_slice.ensures.value at (played.done told)) (c.in-Ok-Some.ensures.rest src) (c.in-Ok-Some.ensures.taken src) (played.calls.trail told).here;
+          comes_further g.S.Store.content g.S.Store.trail g.S.Store.calls _ _ _ _ _ _ _ _ _ _ _ _ _ (played.calls.trail told).before played.calls.counted (it.come src told) next _ _ (rw c.as_slice.ensures.value at (played.done told)) (c.in-Ok-Some.ensures.rest src) (c.in-Ok-Some.ensures.taken src) (played.calls.trail told).here;
     }
 
 pub play_line-requires : goal.play_line-requires
@@ -68,7 +68,7 @@ returns-in_err-play_line-in-Ok-Some-clause-stopped g c = λ src told.
     let it = c.loop-done.invariant in
     let played = c.in_err-play_line-in-Ok-Some.ensures in
     let next = next_is _ _ _ _ _ _ _ (it.come src told).plays (rw c.in-Ok-Some.field-0-is at (c.in-Ok-Some.ensures.line src)) in
-    rw (p.1, p.2) (stops_line g.S.Store.content g.S.Store.place g.S.Store.calls _ _ _ _ _ _ _ _ _ _ _ _ _ (played.calls.trail told).before played.calls.counted (it.come src told) next _ _ played.kind (played.enough told (λ was. suffices_at _ _ (sym (it.was_empty told) ∙ was) _ _ (it.come src told).plays.plays (omega (arith, it.counted, it.within)))) (rw c.as_slice.ensures.value at (played.stopped told)))
+    rw (p.1, p.2) (stops_line g.S.Store.content g.S.Store.trail g.S.Store.calls _ _ _ _ _ _ _ _ _ _ _ _ _ (played.calls.trail told).before played.calls.counted (it.come src told) next _ _ played.kind (played.enough told (λ was. suffices_at _ _ (sym (it.was_empty told) ∙ was) _ _ (it.come src told).plays.plays (omega (arith, it.counted, it.within)))) (rw c.as_slice.ensures.value at (played.stopped told)))
 
 pub returns-in_err-play_line-in-Ok-Some-clause-runs : goal.returns-in_err-play_line-in-Ok-Some-clause-runs
 returns-in_err-play_line-in-Ok-Some-clause-runs g c = λ told.
@@ -86,14 +86,14 @@ returns-in-Ok-None-clause-played g c = λ src told.
     let it = c.loop-done.invariant in
     let out = c.run_waiting.ensures in
     let read = rw c.in-Ok-None.field-0-is at (c.in-Ok-None.ensures.line src) in
-    ends_played g.S.Store.content g.S.Store.place g.S.Store.calls _ _ _ _ _ _ _ _ _ _ _ _ (out.calls.trail told).before out.calls.counted (it.come src told) read (out.calls.trail told).here c.run_waiting.result (out.done told) out.cleared
+    ends_played g.S.Store.content g.S.Store.trail g.S.Store.calls _ _ _ _ _ _ _ _ _ _ _ _ (out.calls.trail told).before out.calls.counted (it.come src told) read (out.calls.trail told).here c.run_waiting.result (out.done told) out.cleared
 
 pub returns-in-Ok-None-clause-stopped : goal.returns-in-Ok-None-clause-stopped
 returns-in-Ok-None-clause-stopped g c = λ src told.
     let it = c.loop-done.invariant in
     let out = c.run_waiting.ensures in
     let read = rw c.in-Ok-None.field-0-is at (c.in-Ok-None.ensures.line src) in
-    ends_stopped g.S.Store.content g.S.Store.place g.S.Store.calls _ _ _ _ _ _ _ _ _ _ _ _ (out.calls.trail told).before out.calls.counted (it.come src told) read _ c.run_waiting.result out.kind (out.enough told (λ was. suffices_at _ _ (sym (it.was_empty told) ∙ was) _ _ (it.come src told).plays.plays (omega (arith, it.counted, it.within)))) out.refused (out.stopped told)
+    ends_stopped g.S.Store.content g.S.Store.trail g.S.Store.calls _ _ _ _ _ _ _ _ _ _ _ _ (out.calls.trail told).before out.calls.counted (it.come src told) read _ c.run_waiting.result out.kind (out.enough told (λ was. suffices_at _ _ (sym (it.was_empty told) ∙ was) _ _ (it.come src told).plays.plays (omega (arith, it.counted, it.within)))) out.refused (out.stopped told)
 
 pub returns-in-Ok-None-clause-read : goal.returns-in-Ok-None-clause-read
 returns-in-Ok-None-clause-read g c = λ src. on_any c.run_waiting.result (rest_out c.loop-done.lines.taken (c.loop-done.lines.pending ++ g.I.Source.rest c.loop-done.input) c.next.new.self.pending (g.I.Source.rest c.next.new.source) (rw c.in-Ok-None.field-0-is at (c.in-Ok-None.ensures.line src)) (c.in-Ok-None.ensures.rest src))

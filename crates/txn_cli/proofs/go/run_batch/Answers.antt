@@ -1,6 +1,6 @@
 use Rattle.txn_cli.proofs.Caused.{causes_before}
 use Rattle.std.proofs.Common.{[], refl, sym, ap, ◌∙◌}
-use Rattle.store_trait.specs.Meaning.{meaning}
+use Rattle.store_laws.specs.Meaning.{meaning}
 use Rattle.txn_cli.proofs.BatchRuns.{if_ok, batch_runs, batch_done, batch_left}
 use Rattle.txn_cli.proofs.OnlyReading.{runs_only_read}
 use Rattle.store_laws.proofs.Resting.{meaning-rest}

@@ -13,7 +13,7 @@ pub loop-init : goal.loop-init
 loop-init g c = record {
   rising = λ key past. subst (IsPast key) (sym c.new-docs.ensures) (c.documents_rise.ensures.empty key);
   listed = λ told. listed_none (g.S.Store.content c.args.store.now) (record { 0 = replicate 12 255 }) c.new-docs.result c.new-docs.ensures;
-  reads = λ told. reads_none g.S.Store.tells g.S.Store.content g.S.Store.place g.S.Store.calls g.S.Store.faults _ (g.met.S.Store.present _ told);
+  reads = λ told. reads_none g.S.Store _ (g.met.S.Store.present _ told);
   go_on = search rules;
 }
 

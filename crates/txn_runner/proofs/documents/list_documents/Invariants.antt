@@ -2,4 +2,4 @@ use Rattle.txn_runner.specs.Listing.{IsListing}
 use Rattle.txn_runner.proofs.documents.list_documents.Given as goal
 
 abbrev pub invariant-loop : goal.invariant-loop
-invariant-loop g l = IsListing g.S.Store.tells g.S.Store.content g.S.Store.place g.S.Store.calls g.S.Store.faults l.fn.store l.store l.after l.docs
+invariant-loop g l = IsListing g.S.Store l.fn.store l.store l.after l.docs

@@ -1,5 +1,5 @@
 use Rattle.std.proofs.lemmas.Result.{err_from_is_err_and}
-use Rattle.store_trait.specs.Readiness.{token}
+use Rattle.store_laws.specs.Readiness.{token}
 use Rattle.txn_runner.proofs.Beside.{add_others}
 use Rattle.txn_runner.proofs.Works.{works_edited, works_idly, comes_edited, comes_to_nothing}
 use Rattle.txn_runner.proofs.Preparing.{queue_hits, queue_quietly, queue_worth}

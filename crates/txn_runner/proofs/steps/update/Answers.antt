@@ -1,5 +1,5 @@
 use Rattle.std.proofs.lemmas.Result.{err_from_is_err_and}
-use Rattle.store_trait.specs.Readiness.{token}
+use Rattle.store_laws.specs.Readiness.{token}
 use Rattle.txn_runner.proofs.Beside.{update_others}
 use Rattle.txn_runner.proofs.Works.{works_edited, works_idly, comes_edited}
 use Rattle.std.proofs.lemmas.Int.{to_z-of_z}

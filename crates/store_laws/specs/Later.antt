@@ -5,26 +5,26 @@ use Rattle.txn_key.specs.declared.key.Key.{Key}
 use Rattle.txn_record.specs.declared.record.Record.{Record}
 use Rattle.txn_record.specs.declared.state.State.{State}
 use Rattle.txn_record.specs.declared.state.State.TheVariants as state
-use Rattle.txn_record.specs.States.{is_decided_state}
+use Rattle.txn_record.specs.States.{was_prepared_state}
 use Rattle.store_trait.specs.Names.{same_state}
 use Rattle.store_trait.specs.Contents.{Content}
-use Rattle.store_trait.specs.View.{View, look, decided, settled, chosen, valid_nonce, HasKey}
-use Rattle.store_trait.specs.Readiness.{In, StandsAt, IsReady, IsSpent}
+use Rattle.store_laws.specs.View.{View, look, was_prepared, settled, was_decided, valid_nonce, HasKey}
+use Rattle.store_laws.specs.Readiness.{In, StandsAt, IsReady, IsSpent}
 
--- Nothing new stands before a decided record: states go on, keys and nonces stay, and what stands
--- before a decided record now stood there before.
+-- Nothing new stands before a record that was prepared: states go on, keys and nonces stay, and what stands
+-- before such a record now stood there before.
 pub record NothingNewBefore (old new : View) : Type 0 where
-  pub decides : (id : TxnId) → decided old id ≡ true → decided new id ≡ true
-  pub chooses : (id : TxnId) → chosen old id ≡ true → chosen new id ≡ true
+  pub decides : (id : TxnId) → was_prepared old id ≡ true → was_prepared new id ≡ true
+  pub chooses : (id : TxnId) → was_decided old id ≡ true → was_decided new id ≡ true
   pub settles : (id : TxnId) → settled old id ≡ true → settled new id ≡ true
   pub keys : (id : TxnId) (key : Key) → HasKey old id key → HasKey new id key
-  pub nonces : (id : TxnId) → decided old id ≡ true → valid_nonce new id ≡ valid_nonce old id
-  pub stands : (key : Key) (x : Token) (id : TxnId) → decided old id ≡ true → StandsAt new key x id → StandsAt old key x id
+  pub nonces : (id : TxnId) → was_prepared old id ≡ true → valid_nonce new id ≡ valid_nonce old id
+  pub stands : (key : Key) (x : Token) (id : TxnId) → was_prepared old id ≡ true → StandsAt new key x id → StandsAt old key x id
 
 -- a record that waits for its decision
 pub record IsUndecided (view : View) (id : TxnId) : Type 0 where
-  pub prepared : decided view id ≡ true
-  pub waits : chosen view id ≡ false
+  pub prepared : was_prepared view id ≡ true
+  pub waits : was_decided view id ≡ false
 
 -- What only goes forward, whoever makes the calls between the two contents.
 pub record IsLater (old new : View) : Type 0 where
@@ -36,7 +36,7 @@ pub record IsLater (old new : View) : Type 0 where
 -- the states that a record may be in later on
 abbrev pub may_follow : State → State → Bool
 may_follow state.Preparing to = true
-may_follow state.Prepared to = is_decided_state to
+may_follow state.Prepared to = was_prepared_state to
 may_follow state.Aborting to = same_state to state.Aborting || same_state to state.Aborted
 may_follow state.Applying to = same_state to state.Applying || same_state to state.Applied
 may_follow state.Aborted to = same_state to state.Aborted

@@ -2,14 +2,14 @@ use Rattle.std.specs.Prelude.{◌≡◌, ℕ, true, false, Some, [], ◌∷◌}
 use Rattle.txn_record.specs.Effects.{effect, tests}
 use Rattle.txn_record.specs.declared.record.Record.{Record}
 use Rattle.store_trait.specs.Contents.{Content}
-use Rattle.store_trait.specs.Soundness.{IsSound}
-use Rattle.store_trait.specs.Later.{Later, NothingLost}
+use Rattle.store_laws.specs.Soundness.{IsSound}
+use Rattle.store_laws.specs.Later.{Later, NothingLost}
 use Rattle.txn_record.specs.declared.state.State.{State}
 use Rattle.txn_record.specs.declared.state.State.TheVariants as state
-use Rattle.store_trait.specs.View.{look, record_at, chosen}
-use Rattle.store_trait.specs.Done.{StaysDone}
-use Rattle.store_trait.specs.Meaning.{meaning}
-use Rattle.store_trait.specs.Decisions.{decided_by, entry_at}
+use Rattle.store_laws.specs.View.{look, record_at, was_decided}
+use Rattle.store_laws.specs.Done.{StaysDone}
+use Rattle.store_laws.specs.Meaning.{meaning}
+use Rattle.store_laws.specs.Decisions.{decided_by, entry_at}
 
 -- what every call of a runner keeps
 pub record IsStep (old new : Content) : Type 0 where
@@ -24,9 +24,9 @@ pub record IsQuiet (old new : Content) : Type 0 where
   pub means : meaning new ≡ meaning old
   pub none : (at : ℕ) → decided_by old new at ≡ []
 
--- a record that was not chosen yet, and stands now in a state that is
+-- a record that was not decided yet, and is now
 pub record ComesTo (old new : Content) (rec : Record) (to : State) : Type 0 where
-  pub before : chosen (look old) rec.id ≡ false
+  pub before : was_decided (look old) rec.id ≡ false
   pub now : record_at new rec.id ≡ Some rec
   pub state : rec.state ≡ to
 
@@ -34,7 +34,7 @@ pub record ComesTo (old new : Content) (rec : Record) (to : State) : Type 0 wher
 -- whole transaction on it.
 pub record Applies (old new : Content) (rec : Record) : Type 0 where
   pub step : IsStep old new
-  pub chosen : ComesTo old new rec state.Applying
+  pub decides : ComesTo old new rec state.Applying
   pub tested : tests rec.ops (meaning old) ≡ true
   pub means : meaning new ≡ effect rec.ops (meaning old)
   pub one : (at : ℕ) → decided_by old new at ≡ entry_at at rec ∷ []
@@ -42,7 +42,7 @@ pub record Applies (old new : Content) (rec : Record) : Type 0 where
 -- The call that decides to abort: a test fails on the meaning, which stays.
 pub record Aborts (old new : Content) (rec : Record) : Type 0 where
   pub step : IsStep old new
-  pub chosen : ComesTo old new rec state.Aborting
+  pub decides : ComesTo old new rec state.Aborting
   pub failed : tests rec.ops (meaning old) ≡ false
   pub means : meaning new ≡ meaning old
   pub one : (at : ℕ) → decided_by old new at ≡ entry_at at rec ∷ []

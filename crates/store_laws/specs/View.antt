@@ -8,7 +8,7 @@ use Rattle.txn_record.specs.declared.op.Op.{Op}
 use Rattle.txn_record.specs.declared.record.Record.{Record}
 use Rattle.txn_record.specs.declared.state.State.{State}
 use Rattle.txn_record.specs.declared.state.State.TheVariants as state
-use Rattle.txn_record.specs.States.{is_decided_state, is_settled_state, is_chosen_state}
+use Rattle.txn_record.specs.States.{was_prepared_state, is_settled_state, was_decided_state}
 use Rattle.store_trait.specs.Names.{same_state}
 use Rattle.store_trait.specs.Contents.{Content}
 use Rattle.store_trait.specs.Owners.{owner_of}
@@ -98,32 +98,32 @@ state_passes test None = false
 state_passes test (Some rec) = test rec.state
 
 unfoldable pub decided : View → TxnId → Bool
-decided view id = state_passes is_decided_state (view.record_at id)
+was_prepared view id = state_passes was_prepared_state (view.record_at id)
 
 unfoldable pub settled : View → TxnId → Bool
 settled view id = state_passes is_settled_state (view.record_at id)
 
-unfoldable pub chosen : View → TxnId → Bool
-chosen view id = state_passes is_chosen_state (view.record_at id)
+unfoldable pub was_decided : View → TxnId → Bool
+was_decided view id = state_passes was_decided_state (view.record_at id)
 
 unfoldable pub applying : View → TxnId → Bool
 applying view id = state_passes (same_state state.Applying) (view.record_at id)
 
-abbrev pub waits_for_documents : State → Bool
-waits_for_documents state.Prepared = true
-waits_for_documents state.Applying = true
-waits_for_documents _ = false
+abbrev pub is_queued_state : State → Bool
+is_queued_state state.Prepared = true
+is_queued_state state.Applying = true
+is_queued_state _ = false
 
 -- prepared or applying
-unfoldable pub waiting : View → TxnId → Bool
-waiting view id = state_passes waits_for_documents (view.record_at id)
+unfoldable pub is_queued : View → TxnId → Bool
+is_queued view id = state_passes is_queued_state (view.record_at id)
 
--- the nonce of a decided record; a token of it with this nonce is valid, one with another is stale
-abbrev pub nonce_if_decided : Record → Option ℕ
-nonce_if_decided rec = if is_decided_state rec.state then rec.nonce else None
+-- the nonce of a record that was prepared; a token of it with this nonce is valid, one with another is stale
+abbrev pub nonce_if_prepared : Record → Option ℕ
+nonce_if_prepared rec = if was_prepared_state rec.state then rec.nonce else None
 
 unfoldable pub valid_nonce : View → TxnId → Option ℕ
-valid_nonce view id = option_and_then nonce_if_decided (view.record_at id)
+valid_nonce view id = option_and_then nonce_if_prepared (view.record_at id)
 
 -- some operation is on the key
 abbrev pub IsOn : Key → List Op → Type 0

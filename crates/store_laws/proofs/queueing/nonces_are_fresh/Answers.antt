@@ -1,5 +1,5 @@
 use Rattle.store_laws.proofs.Nonces.{nonce_below, preparing_none, nonces_same}
-use Rattle.store_laws.proofs.waiting.nonces_are_fresh.Goals as goal
+use Rattle.store_laws.proofs.queueing.nonces_are_fresh.Goals as goal
 
 pub returns : goal.returns
 returns c = record { below = nonce_below; preparing = preparing_none; same = nonces_same }

@@ -10,7 +10,7 @@ use Rattle.txn_record.specs.declared.record.Record.{Record}
 use Rattle.txn_record.specs.declared.state.State.TheVariants as state
 use Rattle.store_trait.specs.Names.{same_state}
 use Rattle.store_trait.specs.Contents.{Content}
-use Rattle.store_trait.specs.View.{View, look, stash_at, epoch_at, by_side}
+use Rattle.store_laws.specs.View.{View, look, stash_at, epoch_at, by_side}
 use Rattle.store_trait.specs.Cells.{as_record}
 use Rattle.store_trait.specs.Owners.{owner_of}
 use Rattle.store_trait.specs.declared.cell.Cell.{Cell}

@@ -8,9 +8,9 @@ ghost use Rattle.txn_record.specs.declared.state.State.{State};
 ghost use Rattle.txn_record.specs.declared.state.State.TheVariants as state;
 ghost use Rattle.store_trait.specs.Contents.{Content};
 ghost use Rattle.store_trait.specs.Edits.{edited};
-ghost use Rattle.store_trait.specs.Soundness.{IsSound};
-ghost use Rattle.store_trait.specs.Steps.{IsQuiet};
-ghost use Rattle.store_trait.specs.View.{look, record_at, counter, valid_nonce, HasKey};
+ghost use Rattle.store_laws.specs.Soundness.{IsSound};
+ghost use Rattle.store_laws.specs.Steps.{IsQuiet};
+ghost use Rattle.store_laws.specs.View.{look, record_at, counter, valid_nonce, HasKey};
 ghost use Rattle.store_trait.specs.declared.edit.Edit.{Edit};
 ghost use Rattle.store_trait.specs.declared.edit.Edit.TheVariants as edit;
 ghost use Rattle.store_trait.specs.declared.name.Name.TheVariants as name;
@@ -21,7 +21,7 @@ pub fn drawing_a_nonce()
     ensures { (c : Content) → IsSound c → IsQuiet c (edited c name.Nonce edit.DrawNonce) }
 {}
 
-/// The nonce of a decided record was drawn, and a preparing record has none: so no record has the nonce
+/// The nonce of a prepared record was drawn, and a preparing record has none: so no record has the nonce
 /// that is drawn next.
 pub fn nonces_are_fresh()
     ensures below { (c : Content) (id : TxnId) (nonce : ℕ) → IsSound c → valid_nonce (look c) id ≡ Some nonce → nonce < counter c }

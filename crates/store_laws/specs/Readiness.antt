@@ -5,7 +5,7 @@ use Rattle.txn_key.specs.declared.id.TxnId.{TxnId}
 use Rattle.txn_key.specs.declared.id.Token.{Token}
 use Rattle.txn_key.specs.declared.key.Key.{Key}
 use Rattle.txn_record.specs.Walks.{Leads}
-use Rattle.store_trait.specs.View.{View, decided, settled, valid_nonce}
+use Rattle.store_laws.specs.View.{View, was_prepared, settled, valid_nonce}
 
 abbrev pub token : TxnId → ℕ → Token
 token id nonce = record { id = id; nonce = nonce }
@@ -40,9 +40,9 @@ pub record Precedes (view : View) (first then_ : TxnId) : Type 0 where
 abbrev pub Ancestor : View → TxnId → TxnId → Type 0
 Ancestor view a id = Leads (Precedes view) a id
 
--- every token that stands before a valid token of the record or of an ancestor is of a decided record
+-- every token that stands before a valid token of the record or of an ancestor is of a record that was prepared
 abbrev pub Sealed : View → TxnId → Type 0
-Sealed view id = (a : TxnId) (x : Token) → Ancestor view a id → Stands view x a → decided view x.id ≡ true
+Sealed view id = (a : TxnId) (x : Token) → Ancestor view a id → Stands view x a → was_prepared view x.id ≡ true
 
 -- Every other unsettled ancestor has the record as an ancestor and has a greater id, and the record
 -- is sealed.
@@ -55,9 +55,9 @@ pub record IsReady (view : View) (id : TxnId) : Type 0 where
 abbrev pub IsClean : View → TxnId → Type 0
 IsClean view id = (a : TxnId) → Ancestor view a id → settled view a ≡ true
 
--- a token of a decided record with another nonce than the record's
+-- a token of a prepared record, or a later one, with another nonce than the record's
 pub record IsStale (view : View) (x : Token) : Type 0 where
-  pub decides : decided view x.id ≡ true
+  pub decides : was_prepared view x.id ≡ true
   pub other : valid_nonce view x.id ≢ Some x.nonce
 
 -- a token that may be taken out of a queue

@@ -8,7 +8,7 @@ use Rattle.txn_record.specs.declared.record.Record.{Record}
 use Rattle.txn_record.specs.declared.state.State.TheVariants as state
 use Rattle.store_trait.specs.Contents.{Content}
 use Rattle.store_trait.specs.Owners.{epoch}
-use Rattle.store_trait.specs.View.{record_at, doc_at, stash_at, owner_held, held_number}
+use Rattle.store_laws.specs.View.{record_at, doc_at, stash_at, owner_held, held_number}
 use Rattle.store_trait.specs.declared.cell.DocCell.{DocCell}
 use Rattle.store_trait.specs.declared.cell.StashCell.{StashCell}
 

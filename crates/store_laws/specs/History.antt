@@ -5,10 +5,10 @@ use Rattle.txn_record.specs.Orders.{after}
 use Rattle.txn_record.specs.declared.record.Record.{Record}
 use Rattle.txn_record.specs.declared.entry.Entry.{Entry}
 use Rattle.store_trait.specs.Contents.{Content}
-use Rattle.store_trait.specs.View.{record_at}
-use Rattle.store_trait.specs.Soundness.{IsSound}
-use Rattle.store_trait.specs.Meaning.{meaning}
-use Rattle.store_trait.specs.Decisions.{decisions}
+use Rattle.store_laws.specs.View.{record_at}
+use Rattle.store_laws.specs.Soundness.{IsSound}
+use Rattle.store_laws.specs.Meaning.{meaning}
+use Rattle.store_laws.specs.Decisions.{decisions}
 
 -- the same operations and info
 pub record SameTransaction (old new : Record) : Type 0 where
@@ -18,8 +18,8 @@ pub record SameTransaction (old new : Record) : Type 0 where
 -- The n places after a mark tell a history: the recorded order is that of the decisions, every
 -- place is sound and means the opening documents after the decisions so far, and a record keeps its
 -- operations and info.
-pub record IsFaithful (place : ℕ → Content) (mark n : ℕ) (base : Docs) (order : List Entry) : Type 0 where
-  pub order_is : order ≡ decisions place mark n
-  pub sound : (k : ℕ) → k ≤ n → IsSound (place (mark + k))
-  pub means : (k : ℕ) → k ≤ n → meaning (place (mark + k)) ≡ after base (decisions place mark k)
-  pub kept : (j k : ℕ) (id : TxnId) (old new : Record) → j ≤ n → k ≤ n → record_at (place (mark + j)) id ≡ Some old → record_at (place (mark + k)) id ≡ Some new → SameTransaction old new
+pub record IsFaithful (trail : ℕ → Content) (mark n : ℕ) (base : Docs) (order : List Entry) : Type 0 where
+  pub order_is : order ≡ decisions trail mark n
+  pub sound : (k : ℕ) → k ≤ n → IsSound (trail (mark + k))
+  pub means : (k : ℕ) → k ≤ n → meaning (trail (mark + k)) ≡ after base (decisions trail mark k)
+  pub kept : (j k : ℕ) (id : TxnId) (old new : Record) → j ≤ n → k ≤ n → record_at (trail (mark + j)) id ≡ Some old → record_at (trail (mark + k)) id ≡ Some new → SameTransaction old new

@@ -1,7 +1,7 @@
 use Rattle.std.specs.Prelude.{ℕ, zero, suc, ◌+◌, ℤ, ◌&&◌, not, Option, Some, None, unwrap_or, option_and_then, List, [], ◌++◌, if◌then◌else◌}
 use Rattle.std.specs.List.{filter_map}
 use Rattle.std.specs.FinMap.{entries}
-use Rattle.txn_record.specs.States.{is_chosen_state}
+use Rattle.txn_record.specs.States.{was_decided_state}
 use Rattle.txn_record.specs.declared.record.Record.{Record}
 use Rattle.txn_record.specs.declared.state.State.{State}
 use Rattle.txn_record.specs.declared.state.State.TheVariants as state
@@ -9,7 +9,7 @@ use Rattle.txn_record.specs.declared.entry.Entry.{Entry}
 use Rattle.txn_record.specs.declared.entry.Outcome.{Outcome}
 use Rattle.txn_record.specs.declared.entry.Outcome.TheVariants as outcome
 use Rattle.store_trait.specs.Contents.{Content}
-use Rattle.store_trait.specs.View.{look, chosen}
+use Rattle.store_laws.specs.View.{look, was_decided}
 use Rattle.store_trait.specs.Cells.{as_record}
 use Rattle.store_trait.specs.declared.cell.Cell.{Cell}
 
@@ -28,7 +28,7 @@ entry_at at rec = record { id = rec.id; ops = rec.ops; outcome = outcome_of rec.
 
 -- a record that is aborting, applying, aborted or applied, and was none of these before
 abbrev pub decision : Content → ℕ → Cell → Option Entry
-decision old at after = option_and_then (λ rec. if is_chosen_state rec.state && not (chosen (look old) rec.id) then Some (entry_at at rec) else None) (as_record after)
+decision old at after = option_and_then (λ rec. if was_decided_state rec.state && not (was_decided (look old) rec.id) then Some (entry_at at rec) else None) (as_record after)
 
 -- the decisions that a call makes, of which one call makes at most one
 abbrev pub decided_by : Content → Content → ℕ → List Entry
@@ -36,5 +36,5 @@ decided_by old new at = filter_map (λ entry. decision old at entry.1) (entries 
 
 -- the decisions of the n calls after a mark
 abbrev pub decisions : (ℕ → Content) → ℕ → ℕ → List Entry
-decisions place mark zero = []
-decisions place mark (suc n) = decisions place mark n ++ decided_by (place (mark + n)) (place (mark + n + 1)) (mark + n + 1)
+decisions trail mark zero = []
+decisions trail mark (suc n) = decisions trail mark n ++ decided_by (trail (mark + n)) (trail (mark + n + 1)) (mark + n + 1)

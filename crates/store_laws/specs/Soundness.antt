@@ -8,11 +8,11 @@ use Rattle.txn_record.specs.Revnos.{follows, stays_within, is_within, is_present
 use Rattle.txn_record.specs.declared.record.Record.{Record}
 use Rattle.txn_record.specs.declared.state.State.{State}
 use Rattle.txn_record.specs.declared.state.State.TheVariants as state
-use Rattle.store_trait.specs.Meaning.{pending_of, bodies}
+use Rattle.store_laws.specs.Meaning.{pending_of, bodies}
 use Rattle.store_trait.specs.Names.{same_state, may_stand}
 use Rattle.store_trait.specs.Contents.{Content}
-use Rattle.store_trait.specs.View.{View, look, record_at, doc_at, stash_at, counter, chosen, applying, waits_for_documents, HasKey, IsOn, held_number}
-use Rattle.store_trait.specs.Readiness.{token, In, Before, IsReady, Sealed}
+use Rattle.store_laws.specs.View.{View, look, record_at, doc_at, stash_at, counter, was_decided, applying, is_queued_state, HasKey, IsOn, held_number}
+use Rattle.store_laws.specs.Readiness.{token, In, Before, IsReady, Sealed}
 use Rattle.store_trait.specs.declared.cell.Cell.{Cell}
 use Rattle.store_trait.specs.declared.cell.Cell.TheVariants as cell
 use Rattle.store_trait.specs.declared.cell.DocCell.{DocCell}
@@ -80,8 +80,8 @@ pub record IsSound (c : Content) : Type 0 where
   pub doc_nonces : (key : Key) (doc : DocCell) → doc_at c key ≡ Some doc → AllBelow (counter c) (tokens_of_doc doc)
   pub stash_nonces : (key : Key) (stash : StashCell) → stash_at c key ≡ Some stash → AllBelow (counter c) (tokens_of_stash stash)
   pub record_nonces : (id : TxnId) (rec : Record) → record_at c id ≡ Some rec → IfSome rec.nonce (λ nonce. nonce < counter c)
-  pub queued : (id : TxnId) (rec : Record) (nonce : ℕ) (key : Key) → record_at c id ≡ Some rec → IsTrue (waits_for_documents rec.state) → rec.nonce ≡ Some nonce → IsOn key rec.ops → In (token id nonce) ((look c).queue_at key)
+  pub queued : (id : TxnId) (rec : Record) (nonce : ℕ) (key : Key) → record_at c id ≡ Some rec → IsTrue (is_queued_state rec.state) → rec.nonce ≡ Some nonce → IsOn key rec.ops → In (token id nonce) ((look c).queue_at key)
   pub ready : (id : TxnId) → applying (look c) id ≡ true → IsReady (look c) id
-  pub sealed : (id : TxnId) → chosen (look c) id ≡ true → Sealed (look c) id
+  pub sealed : (id : TxnId) → was_decided (look c) id ≡ true → Sealed (look c) id
   pub on_chain : (id : TxnId) (rec : Record) → record_at c id ≡ Some rec → IsTrue (same_state state.Applying rec.state) → StandsOnChain (look c) rec
   pub fits : (id : TxnId) (rec : Record) → record_at c id ≡ Some rec → IsTrue (same_state state.Applying rec.state) → PendingFits c rec
