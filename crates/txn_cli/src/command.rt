@@ -2,8 +2,7 @@
 
 ghost use Rattle.std.specs.Prelude.{◌≡◌, [], ◌≢◌, ◌≤◌, ◌⊎◌, Err, true, false, IsTrue, OnOk, OnErr, IfOk, IfErr, IfSome, IfNone, IsErrOf, map, string_bytes, length, ◌++◌, if◌then◌else◌};
 ghost use Rattle.std.specs.List.{list_any};
-ghost use Rattle.store_trait.specs.Calls.{Rose};
-ghost use Rattle.store_trait.specs.Stores.{CallsGoOn};
+ghost use Rattle.store_trait.specs.Calls.{CallsGoOn, Rose};
 ghost use Rattle.store_trait.specs.Contents.{Content};
 ghost use Rattle.txn_cli.specs.Doing.{HasDone, HasDoneLine, HasStoppedLine, RunsBefore, RunsFirst, RunsWaiting, StopsAs};
 ghost use Rattle.txn_cli.specs.Faulting.{status_of, fault_of_line};
@@ -71,7 +70,7 @@ pub fn command<S: Store, I: Source, O: Sink>(
     // 9 comes only where nonces or revision numbers are used up, and 11 never over a store that tells.
     // Over any store both come only where a call on it in this call was answered so.
     ensures reason { IsTrue S.tells → IfSome result.fault (HasReason (S.content result.store)) }
-    ensures cause { IfSome result.fault (HasCause S.Store store result.store) }
+    ensures cause { IfSome result.fault (HasCause S.answered S.calls store result.store) }
 
     // Where the words are in the grammar, no line is refused and nothing failed, every line is done, unless
     // memory is wanting: a script has fewer lines than there are nonces, or numbers for a document.
@@ -86,7 +85,7 @@ pub fn command<S: Store, I: Source, O: Sink>(
     ensures store { result.fault ≡ Some Fault.Store → Rose (S.faults store) (S.faults result.store) }
     ensures input { result.fault ≡ Some Fault.Input → Rose (I.faults input.old) (I.faults input.new) }
     ensures output { result.fault ≡ Some Fault.Output → Rose (O.faults output.old) (O.faults output.new) }
-    ensures calls { CallsGoOn S.Store store result.store }
+    ensures calls { CallsGoOn S.tells S.content S.trail S.calls S.faults store result.store }
 {
     let mut session = Session {
         store,
@@ -145,11 +144,11 @@ fn run<S: Store, I: Source, O: Sink>(
     ensures read { IsTrue I.tells → OnOk result (I.rest input.new ≡ []) }
     ensures runs { IsTrue S.tells → RunsGoOn (S.trail session.new.store) session.new.runs.items (S.calls session.new.store) }
     ensures reason { IsTrue S.tells → IfErr result (HasReason (S.content session.new.store)) }
-    ensures cause { IfErr result (HasCause S.Store session.old.store session.new.store) }
+    ensures cause { IfErr result (HasCause S.answered S.calls session.old.store session.new.store) }
     ensures store { IsErrOf result Fault.Store → Rose (S.faults session.old.store) (S.faults session.new.store) }
     ensures input { IsErrOf result Fault.Input → Rose (I.faults input.old) (I.faults input.new) }
     ensures output { IsErrOf result Fault.Output → Rose (O.faults output.old) (O.faults output.new) }
-    ensures calls { CallsGoOn S.Store session.old.store session.new.store }
+    ensures calls { CallsGoOn S.tells S.content S.trail S.calls S.faults session.old.store session.new.store }
     ensures later { O.faults output.old ≤ O.faults output.new }
 {
     if !is_run(words) {
@@ -220,11 +219,11 @@ fn play<S: Store, I: Source, O: Sink>(
     ensures read { IsTrue I.tells → OnOk result (I.rest input.new ≡ []) }
     ensures runs { IsTrue S.tells → RunsGoOn (S.trail session.new.store) session.new.runs.items (S.calls session.new.store) }
     ensures reason { IsTrue S.tells → IfErr result (HasReason (S.content session.new.store)) }
-    ensures cause { IfErr result (HasCause S.Store session.old.store session.new.store) }
+    ensures cause { IfErr result (HasCause S.answered S.calls session.old.store session.new.store) }
     ensures store { IsErrOf result Fault.Store → Rose (S.faults session.old.store) (S.faults session.new.store) }
     ensures input { IsErrOf result Fault.Input → Rose (I.faults input.old) (I.faults input.new) }
     ensures output { IsErrOf result Fault.Output → Rose (O.faults output.old) (O.faults output.new) }
-    ensures calls { CallsGoOn S.Store session.old.store session.new.store }
+    ensures calls { CallsGoOn S.tells S.content S.trail S.calls S.faults session.old.store session.new.store }
     ensures later { O.faults output.old ≤ O.faults output.new }
 {
     session.was_empty = is_empty(alloc, &mut session.store)?;
@@ -244,7 +243,7 @@ fn play<S: Store, I: Source, O: Sink>(
 fn is_empty<S: Store>(alloc: Global, store: &mut S) -> Result<bool, Fault>
     ensures answer { IsTrue S.tells → IfOk result (λ answer. answer ≡ has_no_cell (S.content store.old)) }
     ensures same { IsTrue S.tells → S.content store.new ≡ S.content store.old }
-    ensures calls { CallsGoOn S.Store store.old store.new }
+    ensures calls { CallsGoOn S.tells S.content S.trail S.calls S.faults store.old store.new }
     ensures fault { IsErrOf result Fault.Store → Rose (S.faults store.old) (S.faults store.new) }
     ensures kind { IfErr result (λ fault. (fault ≡ Fault.Store) ⊎ (fault ≡ Fault.OutOfMemory)) }
 {
@@ -265,24 +264,24 @@ fn play_line<S: Store, O: Sink>(
     number: u64,
     line: &[u8],
 ) -> Result<(), Fault>
-    requires held { IsTrue S.tells → IsTrue session.old.was_empty → IsHeld S.Store session.old }
+    requires held { IsTrue S.tells → IsTrue session.old.was_empty → IsHeld S.content S.trail S.calls session.old }
     ensures done { IsTrue S.tells → OnOk result
-        (HasDoneLine S.Store line.now session.old session.new O.tells (O.written output.old) (O.written output.new)) }
+        (HasDoneLine S.content S.trail S.calls line.now session.old session.new O.tells (O.written output.old) (O.written output.new)) }
     ensures stopped { IsTrue S.tells → IfErr result
-        (HasStoppedLine S.Store line.now number session.old session.new O.tells (O.written output.old) (O.written output.new)) }
-    ensures held { IsTrue S.tells → IsTrue session.old.was_empty → OnOk result (IsHeld S.Store session.new) }
+        (HasStoppedLine S.content S.trail S.calls line.now number session.old session.new O.tells (O.written output.old) (O.written output.new)) }
+    ensures held { IsTrue S.tells → IsTrue session.old.was_empty → OnOk result (IsHeld S.content S.trail S.calls session.new) }
     ensures runs { IsTrue S.tells → IsTrue session.old.was_empty →
         RunsGoOn (S.trail session.new.store) session.new.runs.items (S.calls session.new.store) }
     ensures none_run { session.old.was_empty ≡ false → session.new.runs.items ≡ session.old.runs.items }
     ensures reason { IsTrue S.tells → IfErr result (HasReason (S.content session.new.store)) }
-    ensures cause { IfErr result (HasCause S.Store session.old.store session.new.store) }
+    ensures cause { IfErr result (HasCause S.answered S.calls session.old.store session.new.store) }
     ensures enough { IsTrue S.tells → (IsTrue session.old.was_empty → Suffices (S.content session.old.store) (length session.old.batch)) →
         IfErr result IsUnspent }
     ensures kind { IfErr result IsOfStatement }
     ensures kept { session.new.was_empty ≡ session.old.was_empty }
     ensures store { IsErrOf result Fault.Store → Rose (S.faults session.old.store) (S.faults session.new.store) }
     ensures output { IsErrOf result Fault.Output → Rose (O.faults output.old) (O.faults output.new) }
-    ensures calls { CallsGoOn S.Store session.old.store session.new.store }
+    ensures calls { CallsGoOn S.tells S.content S.trail S.calls S.faults session.old.store session.new.store }
     ensures later { O.faults output.old ≤ O.faults output.new }
 {
     match read_line(alloc, line) {
@@ -304,7 +303,7 @@ fn run_first<S: Store, O: Sink>(
     number: u64,
     statement: &Statement,
 ) -> Result<(), Fault>
-    requires held { IsTrue S.tells → IsTrue session.old.was_empty → IsHeld S.Store session.old }
+    requires held { IsTrue S.tells → IsTrue session.old.was_empty → IsHeld S.content S.trail S.calls session.old }
     ensures done { IsTrue S.tells → OnOk result
         (HasDone S.content (RunsFirst (lets_run statement.now)) session.old session.new O.tells (O.written output.old) (O.written output.new)) }
     ensures stopped { IsTrue S.tells → IfErr result
@@ -312,19 +311,19 @@ fn run_first<S: Store, O: Sink>(
     ensures cleared { lets_run statement.now ≡ true → OnOk result (session.new.batch ≡ []) }
     ensures refused { IfErr result (λ fault. IsOfLine fault →
         (lets_run statement.now ≡ true) × (session.old.was_empty ≡ false) × (fault ≡ not_built number)) }
-    ensures held { IsTrue S.tells → IsTrue session.old.was_empty → OnOk result (IsHeld S.Store session.new) }
+    ensures held { IsTrue S.tells → IsTrue session.old.was_empty → OnOk result (IsHeld S.content S.trail S.calls session.new) }
     ensures runs { IsTrue S.tells → IsTrue session.old.was_empty →
         RunsGoOn (S.trail session.new.store) session.new.runs.items (S.calls session.new.store) }
     ensures none_run { session.old.was_empty ≡ false → session.new.runs.items ≡ session.old.runs.items }
     ensures reason { IsTrue S.tells → IfErr result (HasReason (S.content session.new.store)) }
-    ensures cause { IfErr result (HasCause S.Store session.old.store session.new.store) }
+    ensures cause { IfErr result (HasCause S.answered S.calls session.old.store session.new.store) }
     ensures enough { IsTrue S.tells → (IsTrue session.old.was_empty → Suffices (S.content session.old.store) (length session.old.batch)) →
         IfErr result IsUnspent }
     ensures kind { IfErr result IsOfStatement }
     ensures kept { session.new.was_empty ≡ session.old.was_empty }
     ensures store { IsErrOf result Fault.Store → Rose (S.faults session.old.store) (S.faults session.new.store) }
     ensures output { IsErrOf result Fault.Output → Rose (O.faults output.old) (O.faults output.new) }
-    ensures calls { CallsGoOn S.Store session.old.store session.new.store }
+    ensures calls { CallsGoOn S.tells S.content S.trail S.calls S.faults session.old.store session.new.store }
     ensures later { O.faults output.old ≤ O.faults output.new }
 {
     if lets_run(statement) {
@@ -348,7 +347,7 @@ fn run_waiting<S: Store, O: Sink>(
     output: &mut O,
     number: u64,
 ) -> Result<(), Fault>
-    requires held { IsTrue S.tells → IsTrue session.old.was_empty → IsHeld S.Store session.old }
+    requires held { IsTrue S.tells → IsTrue session.old.was_empty → IsHeld S.content S.trail S.calls session.old }
     ensures done { IsTrue S.tells → OnOk result
         (HasDone S.content (RunsWaiting session.old.batch) session.old session.new O.tells (O.written output.old) (O.written output.new)) }
     ensures stopped { IsTrue S.tells → IfErr result
@@ -356,19 +355,19 @@ fn run_waiting<S: Store, O: Sink>(
     ensures cleared { OnOk result (session.new.batch ≡ []) }
     ensures refused { IfErr result (λ fault. IsOfLine fault →
         (session.old.was_empty ≡ false) × (session.old.batch ≢ []) × (fault ≡ not_built number)) }
-    ensures held { IsTrue S.tells → IsTrue session.old.was_empty → OnOk result (IsHeld S.Store session.new) }
+    ensures held { IsTrue S.tells → IsTrue session.old.was_empty → OnOk result (IsHeld S.content S.trail S.calls session.new) }
     ensures runs { IsTrue S.tells → IsTrue session.old.was_empty →
         RunsGoOn (S.trail session.new.store) session.new.runs.items (S.calls session.new.store) }
     ensures none_run { session.old.was_empty ≡ false → session.new.runs.items ≡ session.old.runs.items }
     ensures reason { IsTrue S.tells → IfErr result (HasReason (S.content session.new.store)) }
-    ensures cause { IfErr result (HasCause S.Store session.old.store session.new.store) }
+    ensures cause { IfErr result (HasCause S.answered S.calls session.old.store session.new.store) }
     ensures enough { IsTrue S.tells → (IsTrue session.old.was_empty → Suffices (S.content session.old.store) (length session.old.batch)) →
         IfErr result IsUnspent }
     ensures kind { IfErr result IsOfStatement }
     ensures kept { session.new.was_empty ≡ session.old.was_empty }
     ensures store { IsErrOf result Fault.Store → Rose (S.faults session.old.store) (S.faults session.new.store) }
     ensures output { IsErrOf result Fault.Output → Rose (O.faults output.old) (O.faults output.new) }
-    ensures calls { CallsGoOn S.Store session.old.store session.new.store }
+    ensures calls { CallsGoOn S.tells S.content S.trail S.calls S.faults session.old.store session.new.store }
     ensures later { O.faults output.old ≤ O.faults output.new }
 {
     if session.batch.is_empty() {
@@ -386,7 +385,7 @@ fn play_statement<S: Store, O: Sink>(
     number: u64,
     statement: Statement,
 ) -> Result<(), Fault>
-    requires held { IsTrue S.tells → IsTrue session.old.was_empty → IsHeld S.Store session.old }
+    requires held { IsTrue S.tells → IsTrue session.old.was_empty → IsHeld S.content S.trail S.calls session.old }
     requires cleared { lets_run statement ≡ true → IsTrue session.old.was_empty → session.old.batch ≡ [] }
     ensures done { IsTrue S.tells → OnOk result
         (HasDone S.content (Does statement) session.old session.new O.tells (O.written output.old) (O.written output.new)) }
@@ -394,19 +393,19 @@ fn play_statement<S: Store, O: Sink>(
         (StopsAs S.content S.trail (runs_batch statement) (Does statement) session.old session.new O.tells (O.written output.old) (O.written output.new)) }
     ensures refused { IsTrue S.tells → IfErr result (λ fault. IsOfLine fault →
         (is_allowed (at S.content session.old []) statement ≡ false) × (fault ≡ not_built number)) }
-    ensures held { IsTrue S.tells → IsTrue session.old.was_empty → OnOk result (IsHeld S.Store session.new) }
+    ensures held { IsTrue S.tells → IsTrue session.old.was_empty → OnOk result (IsHeld S.content S.trail S.calls session.new) }
     ensures runs { IsTrue S.tells → IsTrue session.old.was_empty →
         RunsGoOn (S.trail session.new.store) session.new.runs.items (S.calls session.new.store) }
     ensures none_run { session.old.was_empty ≡ false → session.new.runs.items ≡ session.old.runs.items }
     ensures reason { IsTrue S.tells → IfErr result (HasReason (S.content session.new.store)) }
-    ensures cause { IfErr result (HasCause S.Store session.old.store session.new.store) }
+    ensures cause { IfErr result (HasCause S.answered S.calls session.old.store session.new.store) }
     ensures enough { IsTrue S.tells → (IsTrue session.old.was_empty → Suffices (S.content session.old.store) (length session.old.batch)) →
         IfErr result IsUnspent }
     ensures kind { IfErr result IsOfStatement }
     ensures kept { session.new.was_empty ≡ session.old.was_empty }
     ensures store { IsErrOf result Fault.Store → Rose (S.faults session.old.store) (S.faults session.new.store) }
     ensures output { IsErrOf result Fault.Output → Rose (O.faults output.old) (O.faults output.new) }
-    ensures calls { CallsGoOn S.Store session.old.store session.new.store }
+    ensures calls { CallsGoOn S.tells S.content S.trail S.calls S.faults session.old.store session.new.store }
     ensures later { O.faults output.old ≤ O.faults output.new }
 {
     let printed = session.perform(alloc, number, statement)?;
