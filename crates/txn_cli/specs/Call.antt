@@ -1,76 +1,149 @@
--- What was done of a script, and what was written.
-use Rattle.std.specs.Prelude.{◌≡◌, ◌++◌, ◌⊎◌, ℕ, Bool, IsTrue, List}
+-- How a call ended: what was done of a script, what the store holds, and what was written.
+use Rattle.std.specs.Prelude.{◌≡◌, ◌≤◌, ◌+◌, ◌++◌, ◌⊎◌, ℕ, Bool, List, Option, Some, None}
 use Rattle.store_trait.specs.Contents.{Content}
-use Rattle.txn_io.specs.Pour.{IsPartPut}
-use Rattle.txn_cli.specs.Leaving.{Leaves}
-use Rattle.txn_cli.specs.Play.{Progress, DoesNext, IsPlayed, Plays, StandOnTrail}
-use Rattle.txn_cli.specs.Refusals.{IsUnspent}
+use Rattle.store_trait.specs.declared.store.Store.{Ghosts}
+use Rattle.txn_io.specs.Lines.{IsPartTaken}
+use Rattle.txn_play.specs.Leaving.{HasLeft, Holding, Stays}
+use Rattle.txn_play.specs.Progress.{Progress, opening}
+use Rattle.txn_play.specs.declared.answer.Answer.{Answer}
+use Rattle.txn_play.specs.declared.refusal.Refusal.{Refusal}
+use Rattle.txn_play.specs.declared.run.Run.{Run}
+use Rattle.txn_cli.specs.Faults.{NoneSpent, refusal_in}
+use Rattle.txn_cli.specs.Output.{Writing, Wrote, WroteOrFailed, WrotePart, answer_text, answers_text, fault_text}
+use Rattle.txn_cli.specs.Script.{DoesNext, IsPlayed, PlaysTo, Reached, Refuses, after_lines, next_may_run, next_of}
 use Rattle.txn_cli.specs.declared.fault.Fault.{Fault}
 use Rattle.txn_cli.specs.declared.fault.Fault.TheVariants as fault
-use Rattle.txn_cli.specs.Texts.{fault_text}
-use Rattle.txn_cli.specs.declared.done.Run.{Run}
 
--- Every line of a script was done, over a store that holds this now, with these Runs. What it held after
--- each line stands on its trail, and what the lines print was written, in order.
-pub record HasPlayed (script : List ℕ) (start : Progress) (content : Content) (trail : ℕ → Content) (from to : ℕ) (runs : List Run) (sink_tells : Bool) (old_written written : List ℕ) : Type 0 where
-  pub end : Progress
-  pub plays : IsPlayed script start end
-  pub stand : StandOnTrail trail from to plays.plays
-  pub holds : end.content ≡ content
-  pub kept : end.runs ≡ runs
-  pub writes : IsTrue sink_tells → written ≡ old_written ++ end.printed
+-- what a source had as a call began, and what it has left
+pub record Taken : Type 0 where
+  pub script : List ℕ
+  pub untaken : List ℕ
 
--- What comes next was done, the store holds what it left, and the output failed before all that it prints
--- was written.
-pub record HasCut (script : List ℕ) (done : ℕ) (last : Progress) (content : Content) (runs : List Run) (sink_tells : Bool) (before written : List ℕ) : Type 0 where
+abbrev pub taken : List ℕ → List ℕ → Taken
+taken script untaken = record { script = script; untaken = untaken }
+
+-- what a store tells as a call ended, with the Runs
+pub record Held : Type 0 where
+  pub content : Content
+  pub trail : ℕ → Content
+  pub calls : ℕ
+  pub runs : List Run
+
+abbrev pub held : {S : Type 0} → Ghosts S → S → List Run → Held
+held store s runs =
+    record { content = store.content s; trail = store.trail s; calls = store.calls s; runs = runs }
+
+-- a script as a call begins over a store
+abbrev pub start : {S : Type 0} → Ghosts S → S → Progress
+start store s = opening (store.content s) (store.calls s)
+
+-- the store and the Runs are as this progress has them
+pub record Holds (end : Held) (p : Progress) : Type 0 where
+  pub content : end.content ≡ p.content
+  pub calls : end.calls ≡ p.calls
+  pub runs : end.runs ≡ p.runs
+
+-- Every line of a script was done, over a store that holds this now, with these Runs; and what the lines
+-- print was written, in order.
+pub record HasPlayed (script : List ℕ) (start : Progress) (end : Held) (w : Writing) : Type 0 where
+  pub reached : Reached
+  pub plays : IsPlayed script end.trail start reached
+  pub holds : Holds end reached.last
+  pub writes : Wrote w (answers_text reached.answers)
+
+-- ---- what a refusal leaves
+
+abbrev pub holding_in : Held → Holding
+holding_in end = record { content = end.content; runs = end.runs }
+
+abbrev pub holding_at : Progress → Holding
+holding_at p = record { content = p.content; runs = p.runs }
+
+abbrev pub LeftAs : Option Refusal → Bool → Progress → Held → Type 0
+LeftAs None may_run p end = Stays (holding_at p) (holding_in end)
+LeftAs (Some why) may_run p end =
+    HasLeft may_run p.waiting end.trail (holding_at p) (holding_in end) why
+
+-- What a refusal leaves behind the last line that was done. (By the output: see what was written.)
+abbrev pub LeftIn : Bool → Progress → Held → Fault → Type 0
+LeftIn may_run p end fault.Output = ⊥
+LeftIn may_run p end why = LeftAs (refusal_in why) may_run p end
+
+-- The refusal of a line names the next one, and the text by which it is refused there; bad words come
+-- before any line. Where the input failed, no more than a part of the next line was taken: each line that
+-- came whole was done.
+abbrev pub IsOfNext : Taken → ℕ → Progress → Fault → Type 0
+IsOfNext taken n p (fault.Line number text) =
+    (number ≡ n + 1) × Refuses (next_of n taken.script) p text
+IsOfNext taken n p fault.Words = n ≡ 0
+IsOfNext taken n p fault.Input = IsPartTaken (after_lines n taken.script) taken.untaken
+IsOfNext taken n p _ = Unit {0}
+
+-- A refusal comes behind the first lines of a script, and this is what it leaves.
+pub record Leaves (taken : Taken) (reached : Reached) (end : Held) (why : Fault) : Type 0 where
+  pub next : IsOfNext taken reached.count reached.last why
+  pub left : LeftIn (next_may_run (next_of reached.count taken.script)) reached.last end why
+
+-- What comes next was done, and the store holds what it left; its answer wasn't written, or not whole.
+pub record HasDoneNext (script : List ℕ) (reached : Reached) (end : Held) : Type 0 where
   pub next : Progress
-  pub does : DoesNext script done last next
-  pub holds : next.content ≡ content
-  pub kept : next.runs ≡ runs
-  pub lines : List ℕ
-  pub prints : next.printed ≡ last.printed ++ lines
-  pub part : IsTrue sink_tells → IsPartPut before written lines
+  pub answer : Answer
+  pub does : DoesNext script reached.count reached.last next answer
+  pub holds : Holds end next
+
+-- the output failed before all of that was written
+pub record HasCut (script : List ℕ) (reached : Reached) (end : Held) (w : Writing) : Type 0 where
+  pub done : HasDoneNext script reached end
+  pub part : WrotePart w (answers_text reached.answers) (answer_text done.answer)
+
+-- memory was wanting: for what comes next, or for what is to be printed of it
+abbrev pub LeavesShort : Taken → Reached → Held → Type 0
+LeavesShort taken reached end =
+    Leaves taken reached end fault.OutOfMemory ⊎ HasDoneNext taken.script reached end
 
 -- Another refusal came, and the output failed before all of its last line was written.
-pub record HasCutOff (Caused : Fault → Type 0) (script untaken : List ℕ) (done : ℕ) (last : Progress) (content : Content) (trail : ℕ → Content) (runs : List Run) (sink_tells : Bool) (before written : List ℕ) : Type 0 where
+pub record HasCutOff (Caused : Fault → Type 0) (taken : Taken) (reached : Reached) (end : Held)
+    (w : Writing) : Type 0 where
   pub why : Fault
   pub caused : Caused why
-  pub leaves : Leaves script untaken done last content trail runs why
-  pub part : IsTrue sink_tells → IsPartPut before written (fault_text why)
-
--- a line was written whole, or some first bytes of it before the output failed
-abbrev pub IsPut : List ℕ → List ℕ → List ℕ → Type 0 → Type 0
-IsPut before written line failed = (written ≡ before ++ line) ⊎ (IsPartPut before written line × failed)
+  pub leaves : Leaves taken reached end why
+  pub part : WrotePart w (answers_text reached.answers) (fault_text why)
 
 -- How a call that was refused ends, behind the lines that were done: with the last line of the refusal, or,
 -- where memory was wanting and the output failed too, with some first bytes of it; where the output failed,
 -- with some first bytes of what was to be written.
-abbrev pub EndsWith : (Fault → Type 0) → List ℕ → List ℕ → ℕ → Progress → Content → (ℕ → Content) → List Run → Bool → List ℕ → List ℕ → Fault → Type 0
-EndsWith Caused script untaken done last content trail runs sink_tells before written fault.Output = HasCut script done last content runs sink_tells before written ⊎ HasCutOff Caused script untaken done last content trail runs sink_tells before written
-EndsWith Caused script untaken done last content trail runs sink_tells before written fault.OutOfMemory = Leaves script untaken done last content trail runs fault.OutOfMemory × (IsTrue sink_tells → IsPut before written (fault_text fault.OutOfMemory) (Caused fault.Output))
-EndsWith Caused script untaken done last content trail runs sink_tells before written why = Leaves script untaken done last content trail runs why × (IsTrue sink_tells → written ≡ before ++ fault_text why)
+abbrev pub EndsWith : (Fault → Type 0) → Taken → Reached → Held → Writing → Fault → Type 0
+EndsWith Caused taken reached end w fault.Output =
+    HasCut taken.script reached end w ⊎ HasCutOff Caused taken reached end w
+EndsWith Caused taken reached end w fault.OutOfMemory =
+    LeavesShort taken reached end
+    × WroteOrFailed w (answers_text reached.answers) (fault_text fault.OutOfMemory) (Caused fault.Output)
+EndsWith Caused taken reached end w why =
+    Leaves taken reached end why × Wrote w (answers_text reached.answers ++ fault_text why)
 
--- Some first lines of a script were done, and the call ended with a refusal, where these bytes of the script
--- weren't taken: what the store held after each line stands on its trail, and what they print was written; the
--- store and the Runs are as the refusal leaves them, and no nonce or number was wanting.
-pub record HasRefused (Caused : Fault → Type 0) (script untaken : List ℕ) (start : Progress) (content : Content) (trail : ℕ → Content) (from to : ℕ) (why : Fault) (runs : List Run) (sink_tells : Bool) (old_written written : List ℕ) : Type 0 where
-  pub done : ℕ
-  pub last : Progress
-  pub plays : Plays script start done last
-  pub stand : StandOnTrail trail from to plays
-  pub unspent : IsUnspent why
-  pub ends : EndsWith Caused script untaken done last content trail runs sink_tells (old_written ++ last.printed) written why
+-- Some first lines of a script were done, and the call ended with a refusal: the store and the Runs are as
+-- it leaves them, no nonce or number was wanting, and this was written.
+pub record HasRefused (Caused : Fault → Type 0) (taken : Taken) (start : Progress) (end : Held)
+    (w : Writing) (why : Fault) : Type 0 where
+  pub reached : Reached
+  pub plays : PlaysTo taken.script end.trail start reached
+  pub later : reached.last.calls ≤ end.calls
+  pub unspent : NoneSpent why
+  pub ends : EndsWith Caused taken reached end w why
 
--- The same before the refusal is told: nothing was written but what the lines print; where the output failed,
--- some first bytes of what comes next prints.
-abbrev pub StopsWith : List ℕ → List ℕ → ℕ → Progress → Content → (ℕ → Content) → List Run → Bool → List ℕ → List ℕ → Fault → Type 0
-StopsWith script untaken done last content trail runs sink_tells before written fault.Output = HasCut script done last content runs sink_tells before written
-StopsWith script untaken done last content trail runs sink_tells before written why = Leaves script untaken done last content trail runs why × (IsTrue sink_tells → written ≡ before)
+-- The same before the refusal is told: nothing was written but what the lines print; where the output
+-- failed, some first bytes of what comes next prints.
+abbrev pub StopsWith : Taken → Reached → Held → Writing → Fault → Type 0
+StopsWith taken reached end w fault.Output = HasCut taken.script reached end w
+StopsWith taken reached end w fault.OutOfMemory =
+    LeavesShort taken reached end × Wrote w (answers_text reached.answers)
+StopsWith taken reached end w why =
+    Leaves taken reached end why × Wrote w (answers_text reached.answers)
 
-pub record HasStopped (script untaken : List ℕ) (start : Progress) (content : Content) (trail : ℕ → Content) (from to : ℕ) (why : Fault) (runs : List Run) (sink_tells : Bool) (old_written written : List ℕ) : Type 0 where
-  pub done : ℕ
-  pub last : Progress
-  pub plays : Plays script start done last
-  pub stand : StandOnTrail trail from to plays
-  pub unspent : IsUnspent why
-  pub stops : StopsWith script untaken done last content trail runs sink_tells (old_written ++ last.printed) written why
+pub record HasStopped (taken : Taken) (start : Progress) (end : Held) (w : Writing) (why : Fault)
+    : Type 0 where
+  pub reached : Reached
+  pub plays : PlaysTo taken.script end.trail start reached
+  pub later : reached.last.calls ≤ end.calls
+  pub unspent : NoneSpent why
+  pub stops : StopsWith taken reached end w why

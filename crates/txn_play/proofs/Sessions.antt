@@ -171,7 +171,7 @@ calls_none store s present = record {
 }
 
 -- a refusal after calls that only read leaves the Runs
-pub refused_reading : {S T : Type 0} (store : Ghosts S) (old new : Session S) (why : Refusal) → Stands store old
+pub refused_reading : {S T E : Type 0} (store : Ghosts S) (old new : Session S) (why : E) → Stands store old
     → (IsTrue store.tells → OnlyReads store old.store new.store) → CallsGoOn store old.store new.store
     → new.runs.items ≡ old.runs.items → new.was_empty ≡ old.was_empty → IsKept {T = T} store old new (Err why)
 refused_reading store old new why stands reads on runs was = record {
@@ -183,10 +183,10 @@ refused_reading store old new why stands reads on runs was = record {
 }
 
 -- a call that does nothing is refused
-pub refused_idly : {S T : Type 0} (store : Ghosts S) (old new : Session S) (why : Refusal) → Stands store old
+pub refused_idly : {S T E : Type 0} (store : Ghosts S) (old new : Session S) (why : E) → Stands store old
     → (IsTrue store.tells → store.trail old.store (store.calls old.store) ≡ store.content old.store)
     → new.store ≡ old.store → new.runs.items ≡ old.runs.items → new.was_empty ≡ old.was_empty → IsKept {T = T} store old new (Err why)
-refused_idly {S} {T} store old new why stands present same runs was = record {
+refused_idly {S} {T} {E} store old new why stands present same runs was = record {
   stands = tt;
   runs = λ told empty.
       subst (λ (s : S). RunsGoOn (store.trail s) new.runs.items (store.calls s)) (sym same)

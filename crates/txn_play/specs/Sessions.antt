@@ -1,5 +1,5 @@
 -- A script as it is played: what holds between two statements, and what each call for one keeps.
-use Rattle.std.specs.Prelude.{◌≡◌, false, [], length, Result, OnOk, IfErr, IsErrOf, IsTrue}
+use Rattle.std.specs.Prelude.{◌≡◌, false, [], length, Result, OnOk, IsTrue}
 use Rattle.store_trait.specs.Calls.{Rose}
 use Rattle.store_trait.specs.Stores.{CallsGoOn}
 use Rattle.store_trait.specs.declared.store.Store.{Ghosts}
@@ -46,7 +46,7 @@ pub record IsNew {S : Type 0} (session : Session S) : Type 0 where
 
 -- What each call for a statement keeps: the session stands between two statements again; each Run goes on,
 -- also where the call was refused; the store's calls go on.
-pub record IsKept {S T : Type 0} (store : Ghosts S) (old new : Session S) (result : Result T Refusal)
+pub record IsKept {S T E : Type 0} (store : Ghosts S) (old new : Session S) (result : Result T E)
     : Type 0 where
   pub stands : OnOk result (Stands store new)
   pub runs : IsTrue store.tells → IsTrue old.was_empty
@@ -62,9 +62,8 @@ HasEnough store session =
 
 -- Why a call for a statement was refused: the store failed; over a store that tells, why nonces or numbers
 -- are used up, and that they aren't where there were enough; over any store, by what it answered.
-pub record IsCaused {S T : Type 0} (store : Ghosts S) (old new : Session S) (result : Result T Refusal)
-    : Type 0 where
-  pub fault : IsErrOf result refusal.Store → Rose (store.faults old.store) (store.faults new.store)
-  pub reason : IsTrue store.tells → IfErr result (HasReason (store.content new.store))
-  pub enough : IsTrue store.tells → HasEnough store old → IfErr result IsUnspent
-  pub cause : IfErr result (HasCause store old.store new.store)
+pub record IsCaused {S : Type 0} (store : Ghosts S) (old new : Session S) (why : Refusal) : Type 0 where
+  pub fault : why ≡ refusal.Store → Rose (store.faults old.store) (store.faults new.store)
+  pub reason : IsTrue store.tells → HasReason (store.content new.store) why
+  pub enough : IsTrue store.tells → HasEnough store old → IsUnspent why
+  pub cause : HasCause store old.store new.store why

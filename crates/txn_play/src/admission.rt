@@ -6,7 +6,7 @@ ghost use Rattle.std.specs.FinMap.{get, insert};
 ghost use Rattle.std.specs.List.{list_all};
 ghost use Rattle.store_trait.specs.Calls.{CallsGoOn, Rose};
 ghost use Rattle.store_trait.specs.declared.name.Name.TheVariants.{Doc};
-ghost use Rattle.txn_play.specs.Progress.{placed_doc};
+ghost use Rattle.txn_play.specs.Progress.{placed_doc, has_no_cell};
 ghost use Rattle.txn_runner.specs.Calm.{IsCalm};
 ghost use Rattle.txn_runner.specs.Built.{is_built};
 ghost use Rattle.txn_runner.specs.Running.{OnlyReads};
@@ -20,6 +20,18 @@ use store_trait::{Cell, DocCell, Edit, Name, Store};
 use txn_key::{Key, TxnId};
 use txn_record::Ops;
 use txn_runner::only;
+
+/// Whether the store has no cell.
+pub fn is_empty<S: Store>(alloc: Global, store: &mut S) -> Result<bool, Refusal>
+    ensures answer { IsTrue S.tells → IfOk result (λ answer. answer ≡ has_no_cell (S.content store.old)) }
+    ensures same { IsTrue S.tells → S.content store.new ≡ S.content store.old }
+    ensures calls { CallsGoOn S.Store store.old store.new }
+    ensures fault { IsErrOf result Refusal.Store → Rose (S.faults store.old) (S.faults store.new) }
+    ensures other { OnErr result ((result ≡ Err Refusal.Store) ⊎ (result ≡ Err Refusal.OutOfMemory)) }
+{
+    let first = store.next(alloc, None)?;
+    Ok(first.is_none())
+}
 
 /// Places a document at revision number 0, where its key has none; answers whether it did.
 pub fn place_document<S: Store>(

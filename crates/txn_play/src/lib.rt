@@ -14,6 +14,7 @@ mod run;
 mod session;
 mod settling;
 
+pub use admission::is_empty;
 pub use answer::{Answer, RecordState};
 pub use batch::Batch;
 pub use refusal::Refusal;

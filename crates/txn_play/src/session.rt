@@ -43,7 +43,7 @@ impl<S: Store> Session<S> {
             (S.trail self.new.store) (holding S.Store self.old) (holding S.Store self.new)) }
         ensures refused { IsTrue S.tells → result ≡ Err Refusal.NotBuilt →
             is_allowed (at S.Store self.old) statement ≡ false }
-        ensures caused { IsCaused S.Store self.old self.new result }
+        ensures caused { IfErr result (IsCaused S.Store self.old self.new) }
         ensures kept { IsKept S.Store self.old self.new result }
     {
         match statement {
@@ -62,7 +62,7 @@ impl<S: Store> Session<S> {
             (S.trail self.new.store) (holding S.Store self.old) (holding S.Store self.new)) }
         ensures refused { IsTrue S.tells → result ≡ Err Refusal.NotBuilt →
             is_allowed (at S.Store self.old) (statement.Doc key body) ≡ false }
-        ensures caused { IsCaused S.Store self.old self.new result }
+        ensures caused { IfErr result (IsCaused S.Store self.old self.new) }
         ensures kept { IsKept S.Store self.old self.new result }
     {
         if self.begun {
@@ -89,7 +89,7 @@ impl<S: Store> Session<S> {
             (S.trail self.new.store) (holding S.Store self.old) (holding S.Store self.new)) }
         ensures refused { IsTrue S.tells → result ≡ Err Refusal.NotBuilt →
             is_allowed (at S.Store self.old) (statement.Submit id ops info) ≡ false }
-        ensures caused { IsCaused S.Store self.old self.new result }
+        ensures caused { IfErr result (IsCaused S.Store self.old self.new) }
         ensures kept { IsKept S.Store self.old self.new result }
     {
         if self.batch.is_full() || self.batch.has(id) || info.is_some() || !is_built(&ops) {
@@ -112,7 +112,7 @@ impl<S: Store> Session<S> {
         ensures left { IsTrue S.tells → IfErr result (HasLeft true self.old.batch
             (S.trail self.new.store) (holding S.Store self.old) (holding S.Store self.new)) }
         ensures refused { result ≡ Err Refusal.NotBuilt → self.old.was_empty ≡ false }
-        ensures caused { IsCaused S.Store self.old self.new result }
+        ensures caused { IfErr result (IsCaused S.Store self.old self.new) }
         ensures kept { IsKept S.Store self.old self.new result }
     {
         if !self.was_empty {
@@ -138,7 +138,7 @@ impl<S: Store> Session<S> {
             (S.trail self.new.store) (holding S.Store self.old) (holding S.Store self.new)) }
         ensures refused { IsTrue S.tells → result ≡ Err Refusal.NotBuilt →
             is_allowed (at S.Store self.old) statement.Show ≡ false }
-        ensures caused { IsCaused S.Store self.old self.new result }
+        ensures caused { IfErr result (IsCaused S.Store self.old self.new) }
         ensures kept { IsKept S.Store self.old self.new result }
     {
         if !self.was_empty {

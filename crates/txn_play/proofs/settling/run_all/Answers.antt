@@ -1,4 +1,4 @@
-use Rattle.txn_play.proofs.Caused.{causes_before}
+use Rattle.txn_play.proofs.Causing.{causes_before}
 use Rattle.txn_play.proofs.Batches.{batch_then}
 use Rattle.txn_play.proofs.OwnOperations.{records_after, records_before}
 use Rattle.std.proofs.Common.{arith}
@@ -6,7 +6,7 @@ use Rattle.txn_runner.proofs.Numbers.{uses_then, uses_within}
 use Rattle.txn_play.proofs.settling.run_all.Goals as goal
 
 pub returns-in-Ok-clause-works : goal.returns-in-Ok-clause-works
-returns-in-Ok-clause-works g c = λ told. batch_then _ _ _ _ _ _ _ _ _ _ (c.submit_all.ensures.works told c.args.order.now.items) (c.settle_all.ensures.works told)
+returns-in-Ok-clause-works g c = λ told. batch_then _ _ _ _ _ _ _ _ (c.submit_all.ensures.works told c.args.order.now.items) (c.settle_all.ensures.works told)
 
 pub returns-in-Err-clause-works : goal.returns-in-Err-clause-works
 returns-in-Err-clause-works g c = λ told. c.submit_all.ensures.works told c.args.order.now.items
@@ -18,7 +18,7 @@ pub returns-in-Err-clause-uses : goal.returns-in-Err-clause-uses
 returns-in-Err-clause-uses g c = λ told. uses_within (c.submit_all.ensures.uses told) (omega arith) (omega arith)
 
 pub returns-in-Ok-clause-cause : goal.returns-in-Ok-clause-cause
-returns-in-Ok-clause-cause g c = causes_before _ _ _ _ _ _ c.submit_all.ensures.calls.counted c.settle_all.ensures.cause
+returns-in-Ok-clause-cause g c = causes_before _ _ _ _ _ c.submit_all.ensures.calls.counted c.settle_all.ensures.cause
 
 pub returns-in-Ok-clause-records : goal.returns-in-Ok-clause-records
 returns-in-Ok-clause-records g c = λ told. records_after _ _ _ _ _ (c.settle_all.ensures.works told).step (c.in-Ok.ensures.begun told).submitted

@@ -22,22 +22,22 @@ submit-requires-clause-fresh g c = λ told.
 pub returns-in-Err-clause-works : goal.returns-in-Err-clause-works
 returns-in-Err-clause-works g c = λ told order.
     let h = subst (λ (l : List Waiting). IsSubmitting g.S.Store c.args.store.now c.loop-txn.store c.args.batch.now l) (at_item _ _ _ c.txn-item.is c.loop-txn-test.true) (c.loop-txn.invariant.told told) in
-    batch_works _ _ _ _ _ _ _ _ _ _ _ h.within.0 (h.works order) (c.submit.ensures.works told order)
+    batch_works _ _ _ _ _ _ _ _ _ h.within.0 (h.works order) (c.submit.ensures.works told order)
 
 pub returns-clause-works : goal.returns-clause-works
 returns-clause-works g c = λ told. (c.loop-txn.invariant.told told).works
 
 pub returns-clause-begun : goal.returns-clause-begun
 returns-clause-begun g c = λ told.
-    submitting_ends _ _ _ _ _ _ (c.requires.may_run told)
+    submitting_ends _ _ _ _ (c.requires.may_run told)
     (subst (λ (l : List Waiting). IsSubmitting g.S.Store c.args.store.now c.loop-txn.store c.args.batch.now l) (none_left _ _ c.loop-txn-test.false) (c.loop-txn.invariant.told told))
 
 pub loop-txn-preserved : goal.loop-txn-preserved
 loop-txn-preserved g c = record {
   told = λ told.
       let h = subst (λ (l : List Waiting). IsSubmitting g.S.Store c.args.store.now c.loop-txn.store c.args.batch.now l) (at_item _ _ _ c.txn-item.is c.loop-txn-test.true) (c.loop-txn.invariant.told told) in
-      submitting_next _ _ _ _ _ _ _ _ _ h (c.submit.ensures.works told) (c.submit.ensures.uses told) (c.submit.ensures.calm told) (c.in-Ok-true.ensures.stands told).1;
-  made = call_after _ _ _ _ _ _ _ _ _ _ c.loop-txn.invariant.made c.submit.ensures.call;
+      submitting_next _ _ _ _ _ _ _ h (c.submit.ensures.works told) (c.submit.ensures.uses told) (c.submit.ensures.calm told) (c.in-Ok-true.ensures.stands told).1;
+  made = call_after _ _ _ _ _ _ c.loop-txn.invariant.made c.submit.ensures.call;
 }
 
 pub returns-in-Err-clause-uses : goal.returns-in-Err-clause-uses
@@ -49,7 +49,7 @@ returns-clause-uses g c = λ told. (c.loop-txn.invariant.told told).uses
 pub returns-in-Err-clause-own : goal.returns-in-Err-clause-own
 returns-in-Err-clause-own g c = λ told.
     let h = subst (λ (l : List Waiting). IsSubmitting g.S.Store c.args.store.now c.loop-txn.store c.args.batch.now l) (at_item _ _ _ c.txn-item.is c.loop-txn-test.true) (c.loop-txn.invariant.told told) in
-    submitting_refused _ _ _ _ _ _ _ _ _ h (c.submit.ensures.works told) (c.in-Err.ensures.stays told)
+    submitting_refused _ _ _ _ _ _ _ h (c.submit.ensures.works told) (c.in-Err.ensures.stays told)
 
 pub returns-clause-own : goal.returns-clause-own
 returns-clause-own g c = λ told.
