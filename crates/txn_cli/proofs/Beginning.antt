@@ -1,5 +1,5 @@
 -- How a call begins.
-use Rattle.std.proofs.Common.{◌≡◌, ◌≤◌, ℕ, Bool, true, false, List, [], ◌++◌, IsTrue, ◌⊎◌, ⊎_elim, inl, refl, sym, ap, ◌∙◌, subst, arith}
+use Rattle.std.proofs.Common.{◌≡◌, ◌≤◌, ℕ, Bool, true, false, List, [], ◌++◌, IsTrue, Result, Err, ◌⊎◌, ⊎_elim, inl, inr, refl, sym, ap, ◌∙◌, subst, arith}
 use Rattle.std.proofs.lemmas.List.{append-nil}
 use Rattle.store_trait.specs.Contents.{Content}
 use Rattle.store_trait.specs.declared.store.Store.{Ghosts}
@@ -17,6 +17,10 @@ use Rattle.txn_play.proofs.Sessions.{opens_calm, nothing_waits}
 use Rattle.txn_cli.specs.Call.{HasStopped, Held, Taken, start}
 use Rattle.txn_cli.specs.Output.{Writing, answers_text}
 use Rattle.txn_cli.specs.Script.{Plays}
+use Rattle.txn_cli.specs.Faults.{OrShort, fault_of_stop}
+use Rattle.txn_play.specs.declared.refusal.Refusal.{Refusal}
+use Rattle.txn_play.specs.declared.refusal.Refusal.TheVariants as refusal
+use Rattle.txn_cli.specs.declared.stop.Stop.TheVariants as stop
 use Rattle.txn_cli.specs.declared.fault.Fault.{Fault}
 use Rattle.txn_cli.specs.declared.fault.Fault.TheVariants as fault
 use Rattle.txn_cli.proofs.Coming.{HasCome}
@@ -72,3 +76,15 @@ module _ (taken : Taken) (begun : Progress) (end : Held) (w : Writing) (unwritte
       (λ e. subst (HasStopped taken begun end w) (sym e) (record { reached = record { count = 0; last = last; answers = [] }; plays = opens; later = omega arith; unspent = tt; stops = (record { next = tt; left = inl stays }, written) }))
       (λ e. subst (HasStopped taken begun end w) (sym e) (record { reached = record { count = 0; last = last; answers = [] }; plays = opens; later = omega arith; unspent = tt; stops = (inl (record { next = tt; left = inl stays }), written) }))
       is
+
+abbrev failed : Refusal → Result Bool Refusal
+failed why = Err why
+
+-- the first look fails by the store, or for want of memory
+pub look_fault : (why : Refusal) (f : Fault) → (failed why ≡ failed refusal.Store) ⊎ (failed why ≡ failed refusal.OutOfMemory) → OrShort (fault_of_stop 1 (stop.Refused why)) f → (f ≡ fault.Store) ⊎ (f ≡ fault.OutOfMemory)
+look_fault refusal.Store f h is = inl is
+look_fault refusal.OutOfMemory f h is = inr is
+look_fault refusal.NotBuilt f h is = absurd (⊎_elim (λ e. cc) (λ e. cc) h)
+look_fault (refusal.Spent x) f h is = absurd (⊎_elim (λ e. cc) (λ e. cc) h)
+look_fault (refusal.Broken x) f h is = absurd (⊎_elim (λ e. cc) (λ e. cc) h)
+look_fault (refusal.Repeated x) f h is = absurd (⊎_elim (λ e. cc) (λ e. cc) h)

@@ -1,5 +1,5 @@
 -- How far a call has come in its script, from line to line.
-use Rattle.std.proofs.Common.{◌≡◌, ◌≤◌, ℕ, ◌+◌, arith, Bool, true, false, List, [], ◌∷◌, ◌++◌, Some, None, Ok, IsTrue, ⊎_elim, refl, sym, ap, ◌∙◌, subst, add-one}
+use Rattle.std.proofs.Common.{◌≡◌, ◌≤◌, ℕ, ◌+◌, arith, Bool, true, false, List, [], ◌∷◌, ◌++◌, Option, Some, None, Ok, IsTrue, ⊎_elim, refl, sym, ap, ◌∙◌, subst, add-one}
 use Rattle.std.proofs.lemmas.List.{append-nil}
 use Rattle.store_trait.specs.Contents.{Content}
 use Rattle.store_trait.specs.Stores.{CallsGoOn}

@@ -23,9 +23,9 @@ completes store call Caused taken begun end w fault.Words told words valid none 
     clash p q = cc
 completes store call Caused taken begun end w (fault.Line number text) told words valid none caused h =
     absurd (valid h.reached.count h.reached.last h.reached.answers text h.plays h.ends.0.next.1)
-completes store call Caused taken begun end w fault.Store told words valid none caused h = absurd (none.store caused.shown)
-completes store call Caused taken begun end w fault.Input told words valid none caused h = absurd (none.input caused.shown)
-completes store call Caused taken begun end w fault.Output told words valid none caused h = absurd (none.output caused.shown)
+completes store call Caused taken begun end w fault.Store told words valid none caused h = absurd (none.of_store caused.shown)
+completes store call Caused taken begun end w fault.Input told words valid none caused h = absurd (none.of_input caused.shown)
+completes store call Caused taken begun end w fault.Output told words valid none caused h = absurd (none.of_output caused.shown)
 completes store call Caused taken begun end w (fault.Spent e) told words valid none caused h = elim h.unspent [ ]
 completes store call Caused taken begun end w (fault.Broken e) told words valid none caused h = elim (caused.reason told) [ ]
 completes store call Caused taken begun end w (fault.Repeated id) told words valid none caused h = elim (caused.reason told) [ ]

@@ -1,5 +1,5 @@
 -- A line in two steps: a batch that is let run first, and the line itself.
-use Rattle.std.proofs.Common.{◌≡◌, ◌≢◌, ◌≤◌, ◌⊎◌, ⊎_elim, inl, inr, ℕ, Bool, true, false, List, [], ◌++◌, Option, Some, None, Result, Ok, Err, OnOk, IfErr, IfOk, IsTrue, refl, sym, ap, ◌∙◌, subst, arith}
+use Rattle.std.proofs.Common.{◌≡◌, ◌≢◌, ◌≤◌, ◌⊎◌, ⊎_elim, inl, inr, ℕ, Bool, true, false, List, [], ◌++◌, Option, Some, None, Result, Ok, Err, OnOk, IfErr, IfOk, IsTrue, length, refl, sym, ap, ◌∙◌, subst, arith}
 use Rattle.std.specs.Prelude.{IfSome}
 use Rattle.std.proofs.lemmas.List.{append-nil}
 use Rattle.store_trait.specs.Contents.{Content}
@@ -12,16 +12,21 @@ use Rattle.txn_script.specs.declared.statement.Statement.{Statement}
 use Rattle.txn_script.specs.declared.statement.Statement.TheVariants as statement
 use Rattle.txn_play.specs.Leaving.{Stays}
 use Rattle.txn_play.specs.Progress.{Progress, Does, is_allowed, lets_run, runs_batch}
-use Rattle.txn_play.specs.Sessions.{at, holding}
+use Rattle.txn_play.specs.Sessions.{HasEnough, IsCaused, at, holding}
+use Rattle.txn_play.proofs.Causing.{caused_before}
+use Rattle.txn_runner.proofs.CallsMade.{rose_before}
+use Rattle.txn_runner.specs.Numbers.{Suffices}
+use Rattle.txn_runner.specs.declared.waiting.Waiting.{Waiting}
 use Rattle.txn_play.specs.declared.answer.Answer.{Answer}
 use Rattle.txn_play.specs.declared.answer.Answer.TheVariants.{Nothing}
 use Rattle.txn_play.specs.declared.refusal.Refusal.{Refusal}
 use Rattle.txn_play.specs.declared.refusal.Refusal.TheVariants as refusal
 use Rattle.txn_play.specs.declared.session.Session.{Session}
 use Rattle.txn_play.proofs.BatchRuns.{left_more}
-use Rattle.txn_cli.specs.Faults.{stop_of_reading}
-use Rattle.txn_cli.specs.Line.{Between, Deed, HasDone, HasDoneCut, HasDoneIdly, HasDoneLine, HasRunFirst, HasStoppedLine, LeftBy, RefusedBy, RefusedWhere, RunsFirst, performing, playing, running_first, up_to, from}
-use Rattle.txn_cli.specs.Output.{Writing, Wrote}
+use Rattle.txn_cli.specs.Faults.{refusal_in_stop, stop_of_reading}
+use Rattle.txn_cli.specs.Line.{Between, Deed, HasDone, HasDoneCut, HasDoneIdly, HasDoneLine, HasRunFirst, HasStoppedLine, LeftBy, RefusedBy, RefusedWhere, RunsFirst, StopsFor, performing, playing, running, running_first, up_to, from}
+use Rattle.txn_cli.specs.Output.{Writing, Wrote, WrotePart, answer_text}
+use Rattle.txn_cli.proofs.Scripts.{first_as}
 use Rattle.txn_cli.specs.Script.{PlaysAs, PlaysLine, RefusedAs, line_lets_run, line_may_run}
 use Rattle.txn_cli.specs.declared.stop.Stop.{Stop}
 use Rattle.txn_cli.specs.declared.stop.Stop.TheVariants as stop
@@ -54,6 +59,53 @@ left_by_more store a b old new w (stop.Refused refusal.OutOfMemory) may does h =
 left_by_more store a b old new w (stop.Refused (refusal.Spent e)) may does h = (left_more a.may_run b.may_run old.batch (store.trail new.store) (holding store old) (holding store new) (refusal.Spent e) may h.0, h.1)
 left_by_more store a b old new w (stop.Refused (refusal.Broken e)) may does h = (left_more a.may_run b.may_run old.batch (store.trail new.store) (holding store old) (holding store new) (refusal.Broken e) may h.0, h.1)
 left_by_more store a b old new w (stop.Refused (refusal.Repeated id)) may does h = (left_more a.may_run b.may_run old.batch (store.trail new.store) (holding store old) (holding store new) (refusal.Repeated id) may h.0, h.1)
+
+pub left_by_first : {S T : Type 0} (store : Ghosts S) (lets : Bool) (old new : Session S) (w : Writing) (result : Result T Stop) → lets ≡ true
+    → IfErr result (LeftBy store running old new w) → IfErr result (LeftBy store (running_first lets) old new w)
+left_by_first store lets old new w (Ok x) is l = tt
+left_by_first store lets old new w (Err why) is l = left_by_more store running (running_first lets) old new w why (λ may. is) (λ p q answer ran. (is, ran)) l
+
+-- what was done is left where its answer couldn't be written
+pub left_by_write : {S T : Type 0} (store : Ghosts S) (deed : Deed) (old new : Session S) (w : Writing) (answer : Answer) (result : Result T Stop) → deed.does (at store old) (at store new) answer
+    → IfErr result (λ why. (why ≡ stop.Output) ⊎ (why ≡ stop.Refused refusal.OutOfMemory))
+    → (result ≡ Err stop.Output → WrotePart w [] (answer_text answer)) → (result ≡ Err (stop.Refused refusal.OutOfMemory) → Wrote w [])
+    → IfErr result (LeftBy store deed old new w)
+left_by_write store deed old new w answer (Ok x) did kind part none = tt
+left_by_write store deed old new w answer (Err stop.Output) did kind part none = record { done = record { answer = answer; did = did }; part = part refl }
+left_by_write store deed old new w answer (Err (stop.Refused refusal.OutOfMemory)) did kind part none = (inr (record { answer = answer; did = did }), none refl)
+left_by_write store deed old new w answer (Err (stop.Misread e)) did kind part none = absurd (⊎_elim (λ h. cc) (λ h. cc) kind)
+left_by_write store deed old new w answer (Err (stop.Refused refusal.NotBuilt)) did kind part none = absurd (⊎_elim (λ h. cc) (λ h. cc) kind)
+left_by_write store deed old new w answer (Err (stop.Refused refusal.Store)) did kind part none = absurd (⊎_elim (λ h. cc) (λ h. cc) kind)
+left_by_write store deed old new w answer (Err (stop.Refused (refusal.Spent e))) did kind part none = absurd (⊎_elim (λ h. cc) (λ h. cc) kind)
+left_by_write store deed old new w answer (Err (stop.Refused (refusal.Broken e))) did kind part none = absurd (⊎_elim (λ h. cc) (λ h. cc) kind)
+left_by_write store deed old new w answer (Err (stop.Refused (refusal.Repeated id))) did kind part none = absurd (⊎_elim (λ h. cc) (λ h. cc) kind)
+
+-- what is left for a batch is left once it was run first, or none was
+pub enough_first : {S : Type 0} (store : Ghosts S) (lets : Bool) (old between : Session S) (answer : Answer) → RunsFirst lets (at store old) (at store between) answer → HasEnough store old → HasEnough store between
+enough_first store lets old between answer ran enough = ⊎_elim
+    (λ same. λ was.
+    let is : at store between ≡ at store old = same.0 in
+    subst (λ (p : Progress). Suffices p.content (length p.waiting)) (sym is) (enough (subst (λ (p : Progress). IsTrue p.was_empty) is was)))
+    (λ batch. λ was.
+    let u = batch.1.runs.ran.ran.uses in
+    let s = enough (subst (λ (b : Bool). IsTrue b) batch.1.runs.was_empty was) in
+    subst (λ (w : List Waiting). Suffices (store.content between.store) (length w)) (sym batch.1.runs.none_waits) (record { nonces = omega (arith, s.nonces, u.counter); numbers = λ key. omega (arith, s.numbers key, u.numbers key) }))
+    (first_as lets (at store old) (at store between) answer ran)
+
+-- a refusal behind the first step has its cause since before that step
+pub caused_since : {S T : Type 0} (store : Ghosts S) (old between new : Session S) (result : Result T Stop) → store.calls old.store ≤ store.calls between.store → store.faults old.store ≤ store.faults between.store
+    → (IsTrue store.tells → HasEnough store old → HasEnough store between) → IfErr result (StopsFor store between new) → IfErr result (StopsFor store old new)
+caused_since store old between new (Ok x) calls faults enough h = tt
+caused_since {S} store old between new (Err why) calls faults enough h = by (refusal_in_stop why) h
+  where
+    by : (o : Option Refusal) → IfSome o (IsCaused store between new) → IfSome o (IsCaused store old new)
+    by None h = tt
+    by (Some r) h = record {
+      fault = λ is. rose_before faults (h.fault is);
+      reason = h.reason;
+      enough = λ told e. h.enough told (enough told e);
+      cause = caused_before store old.store between.store new.store r calls h.cause;
+    }
 
 -- a statement that isn't built refuses its line
 refused_by : (s : Statement) (p : Progress) (Where : Type 0) (why : Stop) → (Where → is_allowed p s ≡ false) → RefusedWhere Where why → RefusedBy (Ok (Some s)) p why

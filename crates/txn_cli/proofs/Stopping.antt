@@ -6,7 +6,8 @@ use Rattle.store_trait.specs.Contents.{Content}
 use Rattle.store_trait.specs.declared.store.Store.{Ghosts}
 use Rattle.txn_io.specs.Lines.{IsPartTaken, reading}
 use Rattle.txn_io.specs.Pour.{IsPartPut}
-use Rattle.txn_io.specs.Unread.{Unread, HasRead}
+use Rattle.txn_io.specs.Unread.{Unread, HasRead, IsRefused}
+use Rattle.txn_io.specs.declared.source.Source.{Ghosts as SourceGhosts}
 use Rattle.txn_io.specs.declared.lines.LineFault.{LineFault}
 use Rattle.txn_io.specs.declared.lines.LineFault.TheVariants as line_fault
 use Rattle.txn_runner.specs.declared.waiting.Waiting.{Waiting}
@@ -18,7 +19,7 @@ use Rattle.txn_script.specs.declared.fault.ScriptFault.TheVariants as script_fau
 use Rattle.txn_play.specs.Leaving.{HasLeft, Holding, Stays}
 use Rattle.txn_play.specs.Progress.{Progress, RunsItself, lets_run, runs_batch}
 use Rattle.txn_play.specs.Refusals.{IsUnspent}
-use Rattle.txn_play.specs.Sessions.{at, holding}
+use Rattle.txn_play.specs.Sessions.{HasEnough, IsCaused, at, holding}
 use Rattle.txn_play.specs.declared.answer.Answer.{Answer}
 use Rattle.txn_play.specs.declared.refusal.Refusal.{Refusal}
 use Rattle.txn_play.specs.declared.refusal.Refusal.TheVariants as refusal
@@ -95,7 +96,7 @@ module _ {S : Type 0} (store : Ghosts S) (script untaken : List ℕ) (begun : Pr
       → HasLeft (next_may_run (next_of n script)) session.batch (store.trail next.store) (holding store session) (holding store next) why
   left_next why l = left_more deed.may_run (next_may_run (next_of n script)) session.batch (store.trail next.store) (holding store session) (holding store next) why may l
 
-  done_next : HasDoneIdly store deed session next → HasDoneNext script reached end
+  abbrev done_next : HasDoneIdly store deed session next → HasDoneNext script reached end
   done_next d = record {
     next = at store next;
     answer = d.answer;
@@ -220,7 +221,9 @@ module _ {S : Type 0} (store : Ghosts S) (script untaken : List ℕ) (begun : Pr
 module _ {S : Type 0} (store : Ghosts S) (script untaken : List ℕ) (begun : Progress) (n : ℕ) (left : Unread) (session : Session S) (w : Writing)
     (h : HasCome store script (store.trail session.store) begun n left session w) where
   next_refused : (r : Result (Option (List ℕ)) LineFault) (text : List ℕ) → reading left.taken left.left ≡ r → Refuses r (at store session) text → Refuses (next_of n script) (at store session) text
-  next_refused r text read refused = subst (λ (r : Result (Option (List ℕ)) LineFault). Refuses r (at store session) text) (sym (rw (h.at.taken, h.at.rest) read)) refused
+  next_refused r text read refused =
+      let is : next_of n script ≡ r = rw (h.at.taken, h.at.rest) read in
+      subst (λ (r : Result (Option (List ℕ)) LineFault). Refuses r (at store session) text) (sym is) refused
 
   stopped : (f : Fault) → NoneSpent f → StopsWith (record { script = script; untaken = untaken }) (record { count = n; last = at store session; answers = h.answers }) (held store session.store session.runs.items) w f
       → HasStopped (record { script = script; untaken = untaken }) begun (held store session.store session.runs.items) w f
@@ -250,3 +253,19 @@ module _ {S : Type 0} (store : Ghosts S) (script untaken : List ℕ) (begun : Pr
   stops_unread line_fault.TooLong f is part long script_long = limit (codes "too long") f is (next_refused (Err line_fault.TooLong) (codes "too long") (long refl) refl)
   stops_unread line_fault.ScriptTooLong f is part long script_long = limit (codes "script too long") f is (next_refused (Err line_fault.ScriptTooLong) (codes "script too long") (script_long refl) refl)
   stops_unread line_fault.OutOfMemory f is part long script_long = subst (HasStopped (record { script = script; untaken = untaken }) begun (held store session.store session.runs.items) w) (sym is) short
+
+-- a line isn't read, as its reader says
+pub stops_refused : {S I : Type 0} (store : Ghosts S) (source : SourceGhosts I) (script : List ℕ) (begun : Progress) (n : ℕ) (left : Unread) (session : Session S) (w : Writing) (before after : I)
+    → HasCome store script (store.trail session.store) begun n left session w → IsTrue source.tells
+    → (why : LineFault) (f : Fault) → OrShort (fault_of_line (n + 1) why) f → IsRefused source before after left why
+    → HasStopped (record { script = script; untaken = source.rest after }) begun (held store session.store session.runs.items) w f
+stops_refused store source script begun n left session w before after h tells why f is refused =
+    stops_unread store script (source.rest after) begun n left session w h why f is
+    (λ e. (subst (IsRefused source before after left) e refused).part tells)
+    (λ e. (subst (IsRefused source before after left) e refused) tells)
+    (λ e. (subst (IsRefused source before after left) e refused) tells)
+
+-- where there were nonces and numbers enough, none is wanting
+pub unspent_enough : {S : Type 0} (store : Ghosts S) (old new : Session S) (why : Option Refusal) → IsTrue store.tells → HasEnough store old → IfSome why (IsCaused store old new) → IfSome why IsUnspent
+unspent_enough store old new None told enough h = tt
+unspent_enough store old new (Some why) told enough h = h.enough told enough

@@ -1,9 +1,11 @@
 -- The last line of a refusal was written, or another refusal came.
-use Rattle.std.proofs.Common.{◌≡◌, ◌≢◌, ℕ, Bool, true, List, [], ◌++◌, Result, Ok, Err, OnOk, OnErr, IsTrue, ◌⊎◌, ⊎_elim, inl, inr, refl, sym, ap, ◌∙◌, subst}
+use Rattle.std.proofs.Common.{◌≡◌, ◌≢◌, ◌≤◌, ℕ, Bool, true, List, [], ◌++◌, Result, Ok, Err, OnOk, OnErr, IsTrue, ◌⊎◌, ⊎_elim, inl, inr, refl, sym, ap, ◌∙◌, subst}
 use Rattle.std.proofs.lemmas.List.{append-nil, append_assoc}
 use Rattle.txn_io.specs.Pour.{IsPartPut}
 use Rattle.txn_cli.specs.Call.{EndsWith, HasCut, HasDoneNext, HasStopped, HasRefused, Held, Leaves, LeavesShort, StopsWith, Taken}
-use Rattle.txn_cli.specs.Faults.{NoneSpent}
+use Rattle.store_trait.specs.declared.store.Store.{Ghosts}
+use Rattle.txn_runner.proofs.CallsMade.{rose_before}
+use Rattle.txn_cli.specs.Faults.{Counts, HasRisen, IsCaused, NoneSpent, circumstances, counts}
 use Rattle.txn_cli.specs.Output.{Writing, Wrote, WroteOrFailed, WrotePart, answer_text, answers_text, fault_text}
 use Rattle.txn_cli.specs.Script.{Reached, next_may_run, next_of}
 use Rattle.txn_play.specs.Progress.{Progress}
@@ -162,3 +164,21 @@ refuses_out Caused tells before now after rose why told taken begun end stops fa
   unspent = ⊎_elim (λ same. subst NoneSpent (sym same) stops.unspent) (λ rest. ⊎_elim (λ m. subst NoneSpent (sym m) tt) (λ o. subst NoneSpent (sym o.0) tt) rest) is;
   ends = ends_told Caused tells before now after rose why told failed caused taken stops.reached end is output memory whole short cut stops.stops;
 }
+
+-- ---- causes, as they stand once the refusal was told
+
+module _ {S : Type 0} (store : Ghosts S) (in_grammar : Bool) (old new : S) (input : Counts) (before now after : ℕ) where
+  -- what isn't the output's doesn't hang on what it did since
+  pub caused_still : (f : Fault) → f ≢ fault.Output → IsCaused store (circumstances in_grammar old new input (counts before now)) f → IsCaused store (circumstances in_grammar old new input (counts before after)) f
+  caused_still fault.Output other h = absurd (other refl)
+  caused_still fault.Words other h = record { shown = h.shown; reason = h.reason }
+  caused_still (fault.Line number text) other h = record { shown = h.shown; reason = h.reason }
+  caused_still fault.Store other h = record { shown = h.shown; reason = h.reason }
+  caused_still fault.Input other h = record { shown = h.shown; reason = h.reason }
+  caused_still fault.OutOfMemory other h = record { shown = h.shown; reason = h.reason }
+  caused_still (fault.Spent e) other h = record { shown = h.shown; reason = h.reason }
+  caused_still (fault.Broken e) other h = record { shown = h.shown; reason = h.reason }
+  caused_still (fault.Repeated id) other h = record { shown = h.shown; reason = h.reason }
+
+  pub caused_output : before ≤ now → HasRisen (counts now after) → IsCaused store (circumstances in_grammar old new input (counts before after)) fault.Output
+  caused_output le rose = record { shown = rose_before le rose; reason = λ told. tt }

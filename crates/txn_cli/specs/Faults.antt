@@ -129,6 +129,6 @@ NoneSpent why = IfSome (refusal_in why) IsUnspent
 
 -- nothing failed
 pub record NothingFailed {S : Type 0} (store : Ghosts S) (call : Circumstances S) : Type 0 where
-  pub store : Rose (store.faults call.old) (store.faults call.new) → ⊥
-  pub input : HasRisen call.input → ⊥
-  pub output : HasRisen call.output → ⊥
+  pub of_store : Rose (store.faults call.old) (store.faults call.new) → ⊥
+  pub of_input : HasRisen call.input → ⊥
+  pub of_output : HasRisen call.output → ⊥

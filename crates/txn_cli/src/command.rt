@@ -1,6 +1,6 @@
 //! The top call.
 
-ghost use Rattle.std.specs.Prelude.{◌≡◌, ◌≢◌, ◌≤◌, ◌⊎◌, [], Err, false, IsTrue, OnOk, IfErr, IfSome, IfNone, map, string_bytes, if◌then◌else◌};
+ghost use Rattle.std.specs.Prelude.{◌≡◌, ◌≢◌, ◌≤◌, ◌⊎◌, [], Err, true, false, IsTrue, OnOk, IfErr, IfSome, IfNone, map, string_bytes, if◌then◌else◌};
 ghost use Rattle.std.specs.List.{list_any};
 ghost use Rattle.store_trait.specs.Stores.{CallsGoOn};
 ghost use Rattle.txn_cli.specs.Call.{HasPlayed, HasRefused, HasStopped, held, start, taken};
