@@ -11,7 +11,5 @@ mod memory;
 mod places;
 mod slot;
 mod store;
-#[cfg(test)]
-mod tests;
 
 pub use memory::MemoryStore;

@@ -1,0 +1,242 @@
+//! Updates as they are read, and what only a call shows of bodies after them. The operators on bodies of
+//! documents stand as a script in `examples/update_rows.jsonl`.
+use doc_apply::{apply, fits};
+use doc_update::{Update, UpdateFault};
+use doc_value::{OutOfMemory, Text, Value, print_value, read_value};
+use std::alloc::Global;
+use std::test::Fail;
+
+/// Values, and `read` where they are updates, or the fault with the name or path that it names.
+static READINGS: [(&str, &str); 66] = [
+    (r#"{"$set":{"a":1}}"#, "read"),
+    (
+        r#"{"$set":{"a.b":1,"a.c":{"d":[]}},"$unset":{"b":null}}"#,
+        "read",
+    ),
+    ("1", "NotOperators"),
+    ("null", "NotOperators"),
+    (r#"[{"$set":{"a":1}}]"#, "NotOperators"),
+    (r#"{"a":1}"#, "NotOperators"),
+    (r#"{"a":{"b":1}}"#, "NotOperators"),
+    (r#"{"$set":1}"#, "NotOperators"),
+    (r#"{"$set":["a"]}"#, "NotOperators"),
+    (r#"{"$set":{"a":1},"b":{"c":1}}"#, "NotOperators"),
+    (r#"{"$set":{},"a":1}"#, "NotOperators"),
+    (r#"{"$mul":{"a":2},"$set":null}"#, "NotOperators"),
+    ("{}", "Empty"),
+    (r#"{"$set":{}}"#, "Empty"),
+    (r#"{"$inc":{"a":"x"},"$set":{}}"#, "Empty"),
+    (r#"{"$mul":{}}"#, "Empty"),
+    (r#"{"$mul":{"a":2}}"#, "UnknownOperator $mul"),
+    (r#"{"$":{"a":2}}"#, "UnknownOperator $"),
+    (r#"{"$Set":{"a":2}}"#, "UnknownOperator $Set"),
+    (r#"{"$sets":{"a":2}}"#, "UnknownOperator $sets"),
+    (r#"{"$addtoset":{"a":2}}"#, "UnknownOperator $addtoset"),
+    (
+        r#"{"$mul":{"a..b":2},"$set":{"b.":1}}"#,
+        "UnknownOperator $mul",
+    ),
+    (r#"{"$inc":{"a..b":1},"$mul":{"a":2}}"#, "BadPath a..b"),
+    (r#"{"$set":{"a.":1}}"#, "BadPath a."),
+    (r#"{"$set":{".a":1}}"#, "BadPath .a"),
+    (r#"{"$set":{"a.$b":1}}"#, "BadPath a.$b"),
+    (r#"{"$set":{"$a":1}}"#, "BadPath $a"),
+    (r#"{"$set":{"_id":1}}"#, "BadPath _id"),
+    (r#"{"$set":{"_id.x":1}}"#, "BadPath _id.x"),
+    (r#"{"$set":{"a._id":1}}"#, "read"),
+    (r#"{"$unset":{"txn-queue":1}}"#, "BadPath txn-queue"),
+    (r#"{"$unset":{"a.txn-queue":1}}"#, "read"),
+    (r#"{"$inc":{"b..":"x","a":"y"}}"#, "BadOperand a"),
+    (r#"{"$inc":{"a":1,"b..":"x"}}"#, "BadPath b.."),
+    (r#"{"$inc":{"a":null}}"#, "BadOperand a"),
+    (r#"{"$inc":{"a":"1"}}"#, "BadOperand a"),
+    (r#"{"$inc":{"a":[1]}}"#, "BadOperand a"),
+    (r#"{"$inc":{"a":-9223372036854775808}}"#, "read"),
+    (r#"{"$pull":{"a":{}}}"#, "BadOperand a"),
+    (r#"{"$pull":{"a":{"b":1}}}"#, "BadOperand a"),
+    (r#"{"$pull":{"a":[{"b":1}]}}"#, "read"),
+    (r#"{"$pull":{"a":[{"b.c":1}]}}"#, "BadOperand a"),
+    (r#"{"$pull":{"a":null}}"#, "read"),
+    (r#"{"$pop":{"a":1}}"#, "read"),
+    (r#"{"$pop":{"a":-1}}"#, "read"),
+    (r#"{"$pop":{"a":0}}"#, "BadOperand a"),
+    (r#"{"$pop":{"a":2}}"#, "BadOperand a"),
+    (r#"{"$pop":{"a":"1"}}"#, "BadOperand a"),
+    (r#"{"$set":{"a":{"b.c":1}}}"#, "BadOperand a"),
+    (r#"{"$set":{"a":{"b":[{"$c":1}]}}}"#, "BadOperand a"),
+    (r#"{"$set":{"a":{"b$":1}}}"#, "read"),
+    (r#"{"$unset":{"a":{"$b":1}}}"#, "BadOperand a"),
+    (r#"{"$push":{"a":{"$each":[1]}}}"#, "BadOperand a"),
+    (r#"{"$addToSet":{"a":{"x.y":1}}}"#, "BadOperand a"),
+    (r#"{"$set":{"a":1,"a.b":2}}"#, "Conflict a.b"),
+    (r#"{"$set":{"a":1},"$inc":{"a.b":1}}"#, "Conflict a"),
+    (r#"{"$inc":{"a":1},"$set":{"a":1}}"#, "Conflict a"),
+    (
+        r#"{"$inc":{"a":1,"b":1},"$set":{"b.c":1,"a":1}}"#,
+        "Conflict a",
+    ),
+    (r#"{"$inc":{"a.b":1},"$set":{"a":1,"a.b":2}}"#, "Conflict a"),
+    (r#"{"$set":{"a":1,"a-b":2,"a.b":3}}"#, "Conflict a.b"),
+    (r#"{"$set":{"a.b":1,"a.bc":2,"a.b-c":3,"ab":4}}"#, "read"),
+    (r#"{"$set":{"a.b":1},"$unset":{"a.c":1,"b.a":1}}"#, "read"),
+    (
+        r#"{"$set":{"a":1,"b":2,"c.d.e":3},"$unset":{"c":1}}"#,
+        "Conflict c",
+    ),
+    (
+        r#"{"$pop":{"c.d":1},"$set":{"b":2,"c.d.e":3},"$unset":{"b":1}}"#,
+        "Conflict c.d.e",
+    ),
+    (r#"{"$inc":{"a":"x"},"$set":{"a":1}}"#, "BadOperand a"),
+    (r#"{"$inc":{"a":1},"$set":{"a":1,"b.":1}}"#, "BadPath b."),
+];
+
+/// Updates of what is no object, and what it is afterwards, or `unfit`.
+static SCALARS: [(&str, &str, &str); 5] = [
+    (r#"{"$set":{"x":1}}"#, "7", "unfit"),
+    (r#"{"$unset":{"x":1}}"#, "7", "7"),
+    (r#"{"$unset":{"x":1}}"#, "[]", "[]"),
+    (r#"{"$pop":{"x.y":1},"$pull":{"x.z":1}}"#, "null", "null"),
+    (r#"{"$push":{"x":1}}"#, "null", "unfit"),
+];
+
+/// An operator, how many parts its path has, how deep its operand nests and a list beside, and whether
+/// that fits.
+static LEVELS: [(&str, usize, usize, usize, bool); 22] = [
+    ("$set", 1, 89, 1, true),
+    ("$set", 1, 90, 1, false),
+    ("$set", 90, 0, 1, true),
+    ("$set", 91, 0, 1, false),
+    ("$set", 45, 45, 1, true),
+    ("$set", 45, 46, 1, false),
+    ("$set", 1, 91, 1, false),
+    ("$push", 1, 88, 1, true),
+    ("$push", 1, 89, 1, false),
+    ("$push", 89, 0, 1, true),
+    ("$push", 90, 0, 1, false),
+    ("$addToSet", 1, 88, 1, true),
+    ("$addToSet", 1, 89, 1, false),
+    ("$unset", 100, 90, 1, true),
+    ("$unset", 1, 91, 1, true),
+    ("$pull", 100, 0, 1, true),
+    ("$inc", 90, 0, 1, true),
+    ("$inc", 91, 0, 1, false),
+    ("$set", 1, 89, 89, true),
+    ("$set", 1, 1, 90, false),
+    ("$unset", 1, 1, 89, true),
+    ("$unset", 1, 1, 90, false),
+];
+
+fn named(alloc: Global, fault: &str, name: &Text) -> Result<Vec<u8>, OutOfMemory> {
+    let mut shown = Vec::from_slice(alloc, fault.as_bytes())?;
+    shown.push(b' ')?;
+    shown.extend_from_slice(name.as_bytes())?;
+    Ok(shown)
+}
+
+/// `read`, or the fault with what it names.
+fn reading(alloc: Global, text: &[u8]) -> Result<Vec<u8>, OutOfMemory> {
+    let Ok(value) = read_value(alloc, text) else {
+        return Vec::from_slice(alloc, b"no value");
+    };
+    match Update::read(alloc, &value) {
+        Ok(update) => {
+            let copy = update.copy(alloc)?;
+            if copy.source().equals(&value) {
+                Vec::from_slice(alloc, b"read")
+            } else {
+                Vec::from_slice(alloc, b"another value")
+            }
+        }
+        Err(UpdateFault::NotOperators) => Vec::from_slice(alloc, b"NotOperators"),
+        Err(UpdateFault::Empty) => Vec::from_slice(alloc, b"Empty"),
+        Err(UpdateFault::UnknownOperator(name)) => named(alloc, "UnknownOperator", &name),
+        Err(UpdateFault::BadPath(path)) => named(alloc, "BadPath", &path),
+        Err(UpdateFault::BadOperand(path)) => named(alloc, "BadOperand", &path),
+        Err(UpdateFault::Conflict(path)) => named(alloc, "Conflict", &path),
+        Err(UpdateFault::OutOfMemory) => Vec::from_slice(alloc, b"OutOfMemory"),
+    }
+}
+
+/// The body after the update, as compact text, or `unfit`; both calls must agree.
+fn updated(alloc: Global, update: &Value, body: &Value) -> Result<Vec<u8>, OutOfMemory> {
+    let Ok(update) = Update::read(alloc, update) else {
+        return Vec::from_slice(alloc, b"no update");
+    };
+    let fitting = fits(&update, body);
+    match apply(alloc, &update, body)? {
+        Some(after) if fitting => print_value(alloc, &after),
+        None if !fitting => Vec::from_slice(alloc, b"unfit"),
+        _ => Vec::from_slice(alloc, b"fits and apply differ"),
+    }
+}
+
+fn updated_text(alloc: Global, update: &[u8], body: &[u8]) -> Result<Vec<u8>, OutOfMemory> {
+    let (Ok(update), Ok(body)) = (read_value(alloc, update), read_value(alloc, body)) else {
+        return Vec::from_slice(alloc, b"no value");
+    };
+    updated(alloc, &update, &body)
+}
+
+fn push_times(out: &mut Vec<u8>, times: usize, piece: &str) -> Result<(), OutOfMemory> {
+    for _ in 0..times {
+        out.extend_from_slice(piece.as_bytes())?;
+    }
+    Ok(())
+}
+
+/// An update by one operator, at a path of that many parts, with an operand of that many levels.
+fn deep_update(
+    alloc: Global,
+    operator: &str,
+    parts: usize,
+    levels: usize,
+) -> Result<Vec<u8>, OutOfMemory> {
+    let mut text = Vec::new(alloc);
+    push_times(&mut text, 1, "{\"")?;
+    push_times(&mut text, 1, operator)?;
+    push_times(&mut text, 1, "\":{\"")?;
+    for i in 0..parts {
+        push_times(&mut text, 1, if i == 0 { "a" } else { ".a" })?;
+    }
+    push_times(&mut text, 1, "\":")?;
+    push_times(&mut text, levels, "[")?;
+    push_times(&mut text, 1, "1")?;
+    push_times(&mut text, levels, "]")?;
+    push_times(&mut text, 1, "}}")?;
+    Ok(text)
+}
+
+/// An object with a list of that many levels.
+fn deep_body(alloc: Global, levels: usize) -> Result<Vec<u8>, OutOfMemory> {
+    let mut text = Vec::new(alloc);
+    push_times(&mut text, 1, "{\"b\":")?;
+    push_times(&mut text, levels, "[")?;
+    push_times(&mut text, levels, "]")?;
+    push_times(&mut text, 1, "}")?;
+    Ok(text)
+}
+
+#[test]
+fn updates_are_read(rt: HostRuntime) -> Result<(), Fail> {
+    for (text, expected) in &READINGS {
+        let shown = reading(rt.alloc(), text.as_bytes())?;
+        assert_eq!(rt; shown.as_slice(), expected.as_bytes());
+    }
+    Ok(())
+}
+
+#[test]
+fn updates_are_applied(rt: HostRuntime) -> Result<(), Fail> {
+    for (update, value, expected) in &SCALARS {
+        let shown = updated_text(rt.alloc(), update.as_bytes(), value.as_bytes())?;
+        assert_eq!(rt; shown.as_slice(), expected.as_bytes());
+    }
+    for (operator, parts, levels, beside, fit) in &LEVELS {
+        let update = deep_update(rt.alloc(), operator, *parts, *levels)?;
+        let body = deep_body(rt.alloc(), *beside)?;
+        let shown = updated_text(rt.alloc(), update.as_slice(), body.as_slice())?;
+        assert_eq!(rt; shown.as_slice() != b"unfit".as_slice(), *fit);
+    }
+    Ok(())
+}

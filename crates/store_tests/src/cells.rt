@@ -1,0 +1,106 @@
+//! Names, edits and owners.
+use doc_value::{DocId, Fields, OutOfMemory, Text, Value};
+use sqlite_items::Items;
+use std::alloc::Global;
+use std::test::Fail;
+use store_trait::{
+    Cell, Changed, DocCell, Edit, Edited, Name, Named, Side, StashCell, change, counter_in, hits,
+    owner,
+};
+use txn_key::{Key, TxnId};
+
+fn doc_name(alloc: Global, id: i64) -> Result<Name, OutOfMemory> {
+    let c = Text::from_str(alloc, "k")?;
+    let d = DocId::Int(id);
+    Ok(Name::Doc(Key { c, d }))
+}
+
+/// Names in their order, by place.
+fn name_at(alloc: Global, place: u8) -> Result<Name, OutOfMemory> {
+    match place {
+        0 => Ok(Name::Record(TxnId([1; 12]))),
+        1 => Ok(Name::Record(TxnId([2; 12]))),
+        2 => doc_name(alloc, -1),
+        3 => doc_name(alloc, 5),
+        _ => Ok(Name::Nonce),
+    }
+}
+
+fn are_ordered(alloc: Global, first: u8, second: u8) -> Result<bool, OutOfMemory> {
+    let one = name_at(alloc, first)?;
+    let other = name_at(alloc, second)?;
+    Ok(one.compare(&other) == first.cmp(&second))
+}
+
+#[test]
+fn names_stand_in_order(rt: HostRuntime) -> Result<(), Fail> {
+    for first in 0..5 {
+        for second in 0..5 {
+            assert!(rt;
+                are_ordered(rt.alloc(), first, second)?,
+                "{first} against {second}"
+            );
+        }
+    }
+    Ok(())
+}
+
+fn draws(counter: u32) -> bool {
+    hits(&Name::Nonce, &Edit::DrawNonce, Some(&Cell::Nonce(counter)))
+}
+
+fn put(changed: Changed) -> Option<Cell> {
+    match changed {
+        Changed::Put(after) => Some(after),
+        _ => None,
+    }
+}
+
+/// The counter after a nonce was drawn, copied as an answer and as a cell under its name.
+fn counter_after(alloc: Global) -> Result<Option<u32>, OutOfMemory> {
+    let changed = change(alloc, &Name::Nonce, &Edit::DrawNonce.copy(alloc)?, None)?;
+    let done = Edited {
+        hit: true,
+        cell: put(changed),
+    };
+    Ok(counter_in(done.copy(alloc)?.cell))
+}
+
+#[test]
+fn nonces_are_drawn_up_to_the_last(rt: HostRuntime) -> Result<(), Fail> {
+    assert!(rt; draws(4_294_967_294));
+    assert!(rt; !draws(4_294_967_295));
+    assert_eq!(rt; counter_after(rt.alloc())?, Some(1));
+    Ok(())
+}
+
+fn owner_at(alloc: Global, revno: i64, stashed: i64) -> Result<Side, OutOfMemory> {
+    let doc = DocCell {
+        body: Value::Object(Fields::new(alloc)),
+        revno,
+        queue: Items::new(alloc),
+        remove: None,
+    };
+    let stash = StashCell {
+        revno: stashed,
+        queue: Items::new(alloc),
+        insert: None,
+    };
+    let side = owner(Some(&doc), Some(&stash));
+    let named = Named {
+        name: Name::Nonce,
+        cell: Cell::Doc(doc),
+    };
+    let _copies = (named.copy(alloc)?, Cell::Stash(stash).copy(alloc)?);
+    Ok(side)
+}
+
+#[test]
+fn the_greater_epoch_owns(rt: HostRuntime) -> Result<(), Fail> {
+    let alloc = rt.alloc();
+    assert_eq!(rt; owner_at(alloc, 0, -1)?, Side::Stash);
+    assert_eq!(rt; owner_at(alloc, 1, -1)?, Side::Document);
+    assert_eq!(rt; owner_at(alloc, 2, -3)?, Side::Stash);
+    assert_eq!(rt; owner(None, None), Side::Neither);
+    Ok(())
+}

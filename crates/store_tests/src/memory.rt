@@ -1,0 +1,98 @@
+//! The store in memory: what it lists, and the calls that fail.
+use doc_value::{DocId, Fields, OutOfMemory, Text, Value};
+use sqlite_items::Items;
+use std::alloc::Global;
+use std::cmp::Ordering;
+use std::test::Fail;
+use store_memory::MemoryStore;
+use store_trait::{Cell, DocCell, Edit, Name, Named, Store, StoreError, counter_in};
+use txn_key::Key;
+
+fn doc_name(alloc: Global, id: i64) -> Result<Name, OutOfMemory> {
+    let c = Text::from_str(alloc, "k")?;
+    let d = DocId::Int(id);
+    Ok(Name::Doc(Key { c, d }))
+}
+
+fn empty_doc(alloc: Global) -> Edit {
+    let cell = Cell::Doc(DocCell {
+        body: Value::Object(Fields::new(alloc)),
+        revno: 0,
+        queue: Items::new(alloc),
+        remove: None,
+    });
+    Edit::Place { cell }
+}
+
+fn hit(
+    alloc: Global,
+    store: &mut MemoryStore,
+    name: &Name,
+    edit: &Edit,
+) -> Result<bool, StoreError> {
+    let done = store.edit(alloc, name, edit)?;
+    Ok(done.hit)
+}
+
+/// Whether a document is placed where there was none.
+fn place(alloc: Global, store: &mut MemoryStore, id: i64) -> Result<bool, StoreError> {
+    let name = doc_name(alloc, id)?;
+    hit(alloc, store, &name, &empty_doc(alloc))
+}
+
+fn is_named(found: Option<Named>, name: &Name) -> bool {
+    match found {
+        Some(it) => it.name.compare(name) == Ordering::Equal,
+        None => false,
+    }
+}
+
+/// Whether the next name past that of a document is that of another.
+fn is_next(alloc: Global, store: &mut MemoryStore, id: i64, next: i64) -> Result<bool, StoreError> {
+    let name = doc_name(alloc, id)?;
+    let found = store.next(alloc, Some(&name))?;
+    Ok(is_named(found, &doc_name(alloc, next)?))
+}
+
+#[test]
+fn lists_what_was_placed_in_order(rt: HostRuntime) -> Result<(), Fail> {
+    let alloc = rt.alloc();
+    let mut store = MemoryStore::new(alloc, Vec::new(alloc))?;
+    assert_eq!(rt; place(alloc, &mut store, 3), Ok(true));
+    assert_eq!(rt; place(alloc, &mut store, 1), Ok(true));
+    assert_eq!(rt; place(alloc, &mut store, 3), Ok(false));
+    assert_eq!(rt; is_next(alloc, &mut store, 0, 1), Ok(true));
+    assert_eq!(rt; is_next(alloc, &mut store, 1, 3), Ok(true));
+    assert_eq!(rt; is_next(alloc, &mut store, 3, 3), Ok(false));
+    assert_eq!(rt; store.calls(), 6);
+    Ok(())
+}
+
+fn draw(alloc: Global, store: &mut MemoryStore) -> Result<Option<u32>, StoreError> {
+    let done = store.edit(alloc, &Name::Nonce, &Edit::DrawNonce)?;
+    Ok(counter_in(done.cell))
+}
+
+fn only(alloc: Global, failing: u64) -> Result<Vec<u64>, OutOfMemory> {
+    Ok(vec![in alloc; failing]?)
+}
+
+/// The counter that is read after four calls, each of which draws a nonce or fails.
+fn drawn(alloc: Global, failing: u64) -> Result<Option<u32>, StoreError> {
+    let mut store = MemoryStore::new(alloc, only(alloc, failing)?)?;
+    for call in 1..5 {
+        let failed = draw(alloc, &mut store).is_err();
+        if failed != (call == failing) {
+            return Ok(None);
+        }
+    }
+    Ok(counter_in(store.read(alloc, &Name::Nonce)?))
+}
+
+#[test]
+fn fails_the_chosen_call_and_no_other(rt: HostRuntime) {
+    for failing in 1..5 {
+        assert_eq!(rt; drawn(rt.alloc(), failing), Ok(Some(3)), "{failing}");
+    }
+    assert_eq!(rt; drawn(rt.alloc(), 6), Ok(Some(4)));
+}
