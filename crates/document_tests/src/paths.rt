@@ -122,7 +122,7 @@ fn paths_are_read(rt: HostRuntime) -> Result<(), Fail> {
 }
 
 #[test]
-fn paths_are_followed(rt: HostRuntime) -> Result<(), Fail> {
+fn paths_and_names_are_followed(rt: HostRuntime) -> Result<(), Fail> {
     let value = read_value(rt.alloc(), PLACED).ok().ok_or("not read")?;
     assert!(rt; is_ordered(&value));
     for (text, expected) in &PLACES {
@@ -137,11 +137,6 @@ fn paths_are_followed(rt: HostRuntime) -> Result<(), Fail> {
         assert_eq!(rt; halved.as_slice(), *expected, "{text}");
         assert_eq!(rt; in_turn.as_slice(), *expected, "{text}");
     }
-    Ok(())
-}
-
-#[test]
-fn order_is_told(rt: HostRuntime) -> Result<(), Fail> {
     for (names, expected) in &NAMES {
         let object = object(rt.alloc(), names)?;
         let ordered = is_ordered(&object);

@@ -236,17 +236,12 @@ fn bodies_are_read(rt: HostRuntime) -> Result<(), Fail> {
 }
 
 #[test]
-fn values_are_compared(rt: HostRuntime) -> Result<(), Fail> {
+fn values_and_ids_are_compared(rt: HostRuntime) -> Result<(), Fail> {
     for (first, second, same) in &PAIRS {
         let first = read_value(rt.alloc(), first).ok().ok_or("not read")?;
         let second = read_value(rt.alloc(), second).ok().ok_or("not read")?;
         assert_eq!(rt; first.equals(&second), *same);
     }
-    Ok(())
-}
-
-#[test]
-fn ids_are_ordered(rt: HostRuntime) -> Result<(), Fail> {
     let ids = [
         DocId::Text(Text::from_str(rt.alloc(), "a")?),
         DocId::Text(Text::from_str(rt.alloc(), "ab")?),

@@ -66,14 +66,6 @@ fn counter_after(alloc: Global) -> Result<Option<u32>, OutOfMemory> {
     Ok(counter_in(done.copy(alloc)?.cell))
 }
 
-#[test]
-fn nonces_are_drawn_up_to_the_last(rt: HostRuntime) -> Result<(), Fail> {
-    assert!(rt; draws(4_294_967_294));
-    assert!(rt; !draws(4_294_967_295));
-    assert_eq!(rt; counter_after(rt.alloc())?, Some(1));
-    Ok(())
-}
-
 fn owner_at(alloc: Global, revno: i64, stashed: i64) -> Result<Side, OutOfMemory> {
     let doc = DocCell {
         body: Value::Object(Fields::new(alloc)),
@@ -96,8 +88,11 @@ fn owner_at(alloc: Global, revno: i64, stashed: i64) -> Result<Side, OutOfMemory
 }
 
 #[test]
-fn the_greater_epoch_owns(rt: HostRuntime) -> Result<(), Fail> {
+fn nonces_end_and_the_greater_epoch_owns(rt: HostRuntime) -> Result<(), Fail> {
     let alloc = rt.alloc();
+    assert!(rt; draws(4_294_967_294));
+    assert!(rt; !draws(4_294_967_295));
+    assert_eq!(rt; counter_after(alloc)?, Some(1));
     assert_eq!(rt; owner_at(alloc, 0, -1)?, Side::Stash);
     assert_eq!(rt; owner_at(alloc, 1, -1)?, Side::Document);
     assert_eq!(rt; owner_at(alloc, 2, -3)?, Side::Stash);

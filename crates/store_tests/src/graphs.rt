@@ -110,6 +110,27 @@ fn holds(alloc: Global, row: &Row) -> Result<bool, Fail> {
     )
 }
 
+/// A ring of so many unsettled vertices, whose ids fall and whose edges are listed against their way.
+fn ring(alloc: Global, count: u32) -> Result<Graph, Fail>
+    ensures { IfOk result (λ graph. IsGraph graph) }
+{
+    let mut numbers = Vec::new(alloc);
+    let mut settled = Vec::new(alloc);
+    let mut edges = Vec::new(alloc);
+    for v in (0..count).rev() {
+        numbers.push(v)?;
+        settled.push(false)?;
+        let next = if v + 1 < count { v + 1 } else { 0 };
+        edges.push((u64::from(v), u64::from(next)))?;
+    }
+    graph(
+        alloc,
+        numbers.as_slice(),
+        settled.as_slice(),
+        edges.as_slice(),
+    )
+}
+
 #[test]
 fn worked_graphs(rt: HostRuntime) -> Result<(), Fail> {
     let rows = [
@@ -170,32 +191,6 @@ fn worked_graphs(rt: HostRuntime) -> Result<(), Fail> {
         let right = holds(rt.alloc(), row)?;
         assert!(rt; right, "{place}");
     }
-    Ok(())
-}
-
-/// A ring of so many unsettled vertices, whose ids fall and whose edges are listed against their way.
-fn ring(alloc: Global, count: u32) -> Result<Graph, Fail>
-    ensures { IfOk result (λ graph. IsGraph graph) }
-{
-    let mut numbers = Vec::new(alloc);
-    let mut settled = Vec::new(alloc);
-    let mut edges = Vec::new(alloc);
-    for v in (0..count).rev() {
-        numbers.push(v)?;
-        settled.push(false)?;
-        let next = if v + 1 < count { v + 1 } else { 0 };
-        edges.push((u64::from(v), u64::from(next)))?;
-    }
-    graph(
-        alloc,
-        numbers.as_slice(),
-        settled.as_slice(),
-        edges.as_slice(),
-    )
-}
-
-#[test]
-fn long_ring(rt: HostRuntime) -> Result<(), Fail> {
     let ring = ring(rt.alloc(), 2000)?;
     assert_eq!(rt; pick(rt.alloc(), &ring)?, Some(1999));
     Ok(())

@@ -86,7 +86,7 @@ fn token_again(alloc: Global, text: &str) -> Result<Vec<u8>, Fail> {
 }
 
 #[test]
-fn ids_and_tokens_are_read(rt: HostRuntime) -> Result<(), Fail> {
+fn tokens_and_keys_are_read(rt: HostRuntime) -> Result<(), Fail> {
     for (text, again) in &TOKENS {
         let shown = token_again(rt.alloc(), text)?;
         assert_eq!(rt; shown.as_slice(), again.as_bytes(), "{text}");
@@ -98,11 +98,6 @@ fn ids_and_tokens_are_read(rt: HostRuntime) -> Result<(), Fail> {
     let later = TxnId::read(b"010000000000000000000000").ok_or("no id")?;
     assert!(rt; token.id.compare(&later) == Ordering::Less);
     assert!(rt; TxnId::read(b"00000000000000000000000").is_none());
-    Ok(())
-}
-
-#[test]
-fn keys_are_read(rt: HostRuntime) -> Result<(), Fail> {
     for (c, d, is_key) in &KEYS {
         let read = Key::read(rt.alloc(), &value(rt.alloc(), c)?, &value(rt.alloc(), d)?)?;
         assert!(rt; read.is_some() == *is_key, "{c} {d}");
@@ -131,8 +126,15 @@ fn stands_before(
     )
 }
 
+fn only_document(alloc: Global, doc: Doc) -> Result<Docs, OutOfMemory> {
+    documents_rise();
+    let mut docs = Docs::new(alloc);
+    docs.push(doc)?;
+    docs.copy(alloc)
+}
+
 #[test]
-fn keys_have_an_order(rt: HostRuntime) -> Result<(), Fail> {
+fn keys_stand_in_order(rt: HostRuntime) -> Result<(), Fail> {
     for [c, d, other_c, other_d] in &ORDER {
         assert!(rt;
             stands_before(rt.alloc(), c, d, other_c, other_d)?,
@@ -146,21 +148,10 @@ fn keys_have_an_order(rt: HostRuntime) -> Result<(), Fail> {
     let distinct = distinct.as_slice();
     assert_eq!(rt; distinct.len(), 2);
     assert!(rt; distinct[0].equals(&first) && distinct[1].equals(&last));
-    Ok(())
-}
-
-fn only_document(alloc: Global, doc: Doc) -> Result<Docs, OutOfMemory> {
-    documents_rise();
-    let mut docs = Docs::new(alloc);
-    docs.push(doc)?;
-    docs.copy(alloc)
-}
-
-#[test]
-fn documents_are_added(rt: HostRuntime) -> Result<(), Fail> {
-    let key = key(rt.alloc(), "k", "7")?;
-    let body = value(rt.alloc(), "{}")?;
-    let docs = only_document(rt.alloc(), Doc { key, body })?;
-    assert_eq!(rt; docs.as_slice().len(), 1);
+    let doc = Doc {
+        key: first,
+        body: value(rt.alloc(), "{}")?,
+    };
+    assert_eq!(rt; only_document(rt.alloc(), doc)?.as_slice().len(), 1);
     Ok(())
 }

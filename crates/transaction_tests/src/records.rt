@@ -113,7 +113,7 @@ fn record_of(alloc: Global, state: State) -> Result<Record, Fail> {
 }
 
 #[test]
-fn records_have_states(rt: HostRuntime) -> Result<(), Fail> {
+fn records_and_entries_are_copied(rt: HostRuntime) -> Result<(), Fail> {
     let rows = [
         (State::Preparing, 1, false, false),
         (State::Prepared, 2, false, true),
@@ -130,11 +130,6 @@ fn records_have_states(rt: HostRuntime) -> Result<(), Fail> {
             "{number}"
         );
     }
-    Ok(())
-}
-
-#[test]
-fn entries_are_copied(rt: HostRuntime) -> Result<(), Fail> {
     let record = record_of(rt.alloc(), State::Applied)?;
     let entry = Entry {
         id: record.id,

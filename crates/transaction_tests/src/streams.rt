@@ -76,20 +76,6 @@ fn lines_are_the_bytes_between_newlines(rt: HostRuntime) -> Result<(), Fail> {
     Ok(())
 }
 
-#[test]
-fn a_failed_source_stays_failed(rt: HostRuntime) -> Result<(), Fail> {
-    let alloc = rt.alloc();
-    let bytes = b"a\nb".to_vec(alloc)?;
-    let mut source = ByteWise(MemorySource::new(bytes, [3].to_vec(alloc)?));
-    let mut lines = Lines::new();
-    assert_eq!(rt; lines.next(alloc, &mut source)?.is_some(), true);
-    for _ in 0..2 {
-        let refused = lines.next(alloc, &mut source).err();
-        assert_eq!(rt; refused, Some(LineFault::ReadFault));
-    }
-    Ok(())
-}
-
 /// A source of lines of so many bytes, the last number for the first line.
 #[derive(Drop)]
 struct LongLines {
@@ -123,14 +109,22 @@ impl Source for LongLines {
 }
 
 #[test]
-fn lines_have_a_limit(rt: HostRuntime) -> Result<(), Fail> {
-    let mut source = LongLines {
-        lengths: vec![in rt.alloc(); 16_777_217, 16_777_216]?,
-    };
+fn lines_are_refused(rt: HostRuntime) -> Result<(), Fail> {
+    let alloc = rt.alloc();
+    let bytes = b"a\nb".to_vec(alloc)?;
+    let mut failing = ByteWise(MemorySource::new(bytes, [3].to_vec(alloc)?));
     let mut lines = Lines::new();
-    let longest = lines.next(rt.alloc(), &mut source)?;
+    assert_eq!(rt; lines.next(alloc, &mut failing)?.is_some(), true);
+    for _ in 0..2 {
+        let refused = lines.next(alloc, &mut failing).err();
+        assert_eq!(rt; refused, Some(LineFault::ReadFault));
+    }
+    let lengths = vec![in alloc; 16_777_217, 16_777_216]?;
+    let mut long = LongLines { lengths };
+    let mut lines = Lines::new();
+    let longest = lines.next(alloc, &mut long)?;
     assert_eq!(rt; longest.map_or(0, |line| line.len()), 16_777_216);
-    let longer = lines.next(rt.alloc(), &mut source).err();
+    let longer = lines.next(alloc, &mut long).err();
     assert_eq!(rt; longer, Some(LineFault::TooLong));
     Ok(())
 }
