@@ -75,12 +75,7 @@ fn read_ops(alloc: Global, json: &str) -> Result<Ops, Fail> {
 fn all_have_room(numbers: &[i64]) -> bool
     ensures { result ≡ list_all has_room numbers.now }
 {
-    for number in numbers {
-        if !has_room(*number) {
-            return false;
-        }
-    }
-    true
+    numbers.iter().all(|number| has_room(*number))
 }
 
 fn chained(alloc: Global, json: &str, first: &[i64]) -> Result<Chained, Fail> {

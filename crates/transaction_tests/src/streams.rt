@@ -102,7 +102,7 @@ impl Source for LongLines {
             *left -= count;
             return Ok(count);
         }
-        self.lengths.truncate(self.lengths.len().saturating_sub(1));
+        let _ = self.lengths.pop();
         into[0] = b'\n';
         Ok(1)
     }
