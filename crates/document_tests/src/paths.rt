@@ -67,15 +67,20 @@ static NAMES: [(&str, bool); 7] = [
     ("a a", false),
 ];
 
-/// The parts of a path, a bar after each, or the name of the fault.
-fn path_again(alloc: Global, text: &[u8]) -> Result<Vec<u8>, OutOfMemory> {
-    let path = match Path::read(alloc, text) {
-        Ok(path) => path.copy(alloc)?,
-        Err(PathFault::EmptyPart) => return Vec::from_slice(alloc, b"EmptyPart"),
-        Err(PathFault::BadPart) => return Vec::from_slice(alloc, b"BadPart"),
-        Err(PathFault::Reserved) => return Vec::from_slice(alloc, b"Reserved"),
-        Err(PathFault::OutOfMemory) => return Vec::from_slice(alloc, b"OutOfMemory"),
-    };
+/// A path of so many bytes, and whether it is one.
+static LENGTHS: [(usize, bool); 2] = [(1024, true), (1025, false)];
+
+fn path_fault(fault: &PathFault) -> &'static [u8] {
+    match fault {
+        PathFault::EmptyPart => b"EmptyPart",
+        PathFault::BadPart => b"BadPart",
+        PathFault::Reserved => b"Reserved",
+        PathFault::OutOfMemory => b"OutOfMemory",
+    }
+}
+
+/// The parts, a bar after each.
+fn barred(alloc: Global, path: &Path) -> Result<Vec<u8>, OutOfMemory> {
     let mut shown = Vec::new(alloc);
     for part in path.parts() {
         shown.extend_from_slice(part.as_bytes())?;
@@ -84,12 +89,57 @@ fn path_again(alloc: Global, text: &[u8]) -> Result<Vec<u8>, OutOfMemory> {
     Ok(shown)
 }
 
-/// The compact text of what was found.
-fn shown(alloc: Global, found: Option<&Value>) -> Result<Vec<u8>, OutOfMemory> {
-    match found {
-        Some(value) => print_value(alloc, value),
-        None => Vec::from_slice(alloc, b"missing"),
+/// Whether the parts of the path are those expected, or the fault is that.
+fn is_read_as(alloc: Global, text: &[u8], expected: &[u8]) -> Result<bool, OutOfMemory> {
+    match Path::read(alloc, text) {
+        Ok(path) => Ok(barred(alloc, &path.copy(alloc)?)?.as_slice() == expected),
+        Err(fault) => Ok(path_fault(&fault) == expected),
     }
+}
+
+fn is_long_path(alloc: Global, length: usize) -> Result<bool, OutOfMemory> {
+    let text = vec![in alloc; b'a'; length]?;
+    is_path(alloc, text.as_slice())
+}
+
+#[test]
+fn paths_are_read(rt: HostRuntime) -> Result<(), Fail> {
+    for (text, expected) in &PATHS {
+        assert!(rt; is_read_as(rt.alloc(), text, expected)?);
+    }
+    for (length, is) in &LENGTHS {
+        assert!(rt; is_long_path(rt.alloc(), *length)? == *is);
+    }
+    Ok(())
+}
+
+/// Whether what was found prints as expected.
+fn is_shown(alloc: Global, found: Option<&Value>, expected: &[u8]) -> Result<bool, OutOfMemory> {
+    match found {
+        Some(value) => Ok(print_value(alloc, value)?.as_slice() == expected),
+        None => Ok(expected == b"missing".as_slice()),
+    }
+}
+
+/// Whether the path leads to what is expected, by its parts and by its text.
+fn leads_to(alloc: Global, value: &Value, text: &str, expected: &[u8]) -> Result<bool, Fail> {
+    let path = Path::read(alloc, text.as_bytes()).ok().ok_or("no path")?;
+    let halved = get_by_text(value, text, is_ordered(value));
+    let in_turn = get_by_text(value, text, false);
+    Ok(
+        is_shown(alloc, get(value, &path), expected)?
+            && is_shown(alloc, halved, expected)?
+            && is_shown(alloc, in_turn, expected)?,
+    )
+}
+
+#[test]
+fn paths_are_followed(rt: HostRuntime) -> Result<(), Fail> {
+    let value = read_value(rt.alloc(), PLACED)?;
+    for (text, expected) in &PLACES {
+        assert!(rt; leads_to(rt.alloc(), &value, text, expected)?, "{text}");
+    }
+    Ok(())
 }
 
 fn object(alloc: Global, names: &str) -> Result<Value, OutOfMemory> {
@@ -102,46 +152,17 @@ fn object(alloc: Global, names: &str) -> Result<Value, OutOfMemory> {
     Ok(Value::Object(fields))
 }
 
-#[test]
-fn paths_are_read(rt: HostRuntime) -> Result<(), Fail> {
-    for (text, expected) in &PATHS {
-        let shown = path_again(rt.alloc(), text)?;
-        assert_eq!(rt; shown.as_slice(), *expected);
-        assert_eq!(rt; is_path(rt.alloc(), text)?, expected.ends_with(b"|"));
-    }
-    let mut text = Vec::new(rt.alloc());
-    for _ in 0..1024 {
-        text.push(b'a')?;
-    }
-    let longest = path_again(rt.alloc(), text.as_slice())?;
-    assert_eq!(rt; longest.len(), 1025);
-    text.push(b'a')?;
-    let longer = path_again(rt.alloc(), text.as_slice())?;
-    assert_eq!(rt; longer.as_slice(), b"BadPart".as_slice());
-    Ok(())
+/// Whether the order of the names is told, and `a` found among them.
+fn is_order_told(alloc: Global, names: &str, ordered: bool) -> Result<bool, OutOfMemory> {
+    let object = object(alloc, names)?;
+    let told = is_ordered(&object);
+    Ok(told == ordered && field_of(&object, b"a", told).is_some())
 }
 
 #[test]
-fn paths_and_names_are_followed(rt: HostRuntime) -> Result<(), Fail> {
-    let value = read_value(rt.alloc(), PLACED).ok().ok_or("not read")?;
-    assert!(rt; is_ordered(&value));
-    for (text, expected) in &PLACES {
-        let path = Path::read(rt.alloc(), text.as_bytes())
-            .ok()
-            .ok_or("no path")?;
-        let found = shown(rt.alloc(), get(&value, &path))?;
-        let ordered = is_ordered(&value);
-        let halved = shown(rt.alloc(), get_by_text(&value, text, ordered))?;
-        let in_turn = shown(rt.alloc(), get_by_text(&value, text, false))?;
-        assert_eq!(rt; found.as_slice(), *expected, "{text}");
-        assert_eq!(rt; halved.as_slice(), *expected, "{text}");
-        assert_eq!(rt; in_turn.as_slice(), *expected, "{text}");
-    }
-    for (names, expected) in &NAMES {
-        let object = object(rt.alloc(), names)?;
-        let ordered = is_ordered(&object);
-        assert_eq!(rt; ordered, *expected, "{names}");
-        assert!(rt; field_of(&object, b"a", ordered).is_some(), "{names}");
+fn order_is_told(rt: HostRuntime) -> Result<(), Fail> {
+    for (names, ordered) in &NAMES {
+        assert!(rt; is_order_told(rt.alloc(), names, *ordered)?, "{names}");
     }
     Ok(())
 }

@@ -2,7 +2,7 @@
 //! documents stand as a script in `examples/update_rows.jsonl`.
 use doc_apply::{apply, fits};
 use doc_update::{Update, UpdateFault};
-use doc_value::{OutOfMemory, Text, Value, print_value, read_value};
+use doc_value::{OutOfMemory, Value, print_value, read_value};
 use std::alloc::Global;
 use std::test::Fail;
 
@@ -127,57 +127,6 @@ static LEVELS: [(&str, usize, usize, usize, bool); 22] = [
     ("$unset", 1, 1, 90, false),
 ];
 
-fn named(alloc: Global, fault: &str, name: &Text) -> Result<Vec<u8>, OutOfMemory> {
-    let mut shown = Vec::from_slice(alloc, fault.as_bytes())?;
-    shown.push(b' ')?;
-    shown.extend_from_slice(name.as_bytes())?;
-    Ok(shown)
-}
-
-/// `read`, or the fault with what it names.
-fn reading(alloc: Global, text: &[u8]) -> Result<Vec<u8>, OutOfMemory> {
-    let Ok(value) = read_value(alloc, text) else {
-        return Vec::from_slice(alloc, b"no value");
-    };
-    match Update::read(alloc, &value) {
-        Ok(update) => {
-            let copy = update.copy(alloc)?;
-            if copy.source().equals(&value) {
-                Vec::from_slice(alloc, b"read")
-            } else {
-                Vec::from_slice(alloc, b"another value")
-            }
-        }
-        Err(UpdateFault::NotOperators) => Vec::from_slice(alloc, b"NotOperators"),
-        Err(UpdateFault::Empty) => Vec::from_slice(alloc, b"Empty"),
-        Err(UpdateFault::UnknownOperator(name)) => named(alloc, "UnknownOperator", &name),
-        Err(UpdateFault::BadPath(path)) => named(alloc, "BadPath", &path),
-        Err(UpdateFault::BadOperand(path)) => named(alloc, "BadOperand", &path),
-        Err(UpdateFault::Conflict(path)) => named(alloc, "Conflict", &path),
-        Err(UpdateFault::OutOfMemory) => Vec::from_slice(alloc, b"OutOfMemory"),
-    }
-}
-
-/// The body after the update, as compact text, or `unfit`; both calls must agree.
-fn updated(alloc: Global, update: &Value, body: &Value) -> Result<Vec<u8>, OutOfMemory> {
-    let Ok(update) = Update::read(alloc, update) else {
-        return Vec::from_slice(alloc, b"no update");
-    };
-    let fitting = fits(&update, body);
-    match apply(alloc, &update, body)? {
-        Some(after) if fitting => print_value(alloc, &after),
-        None if !fitting => Vec::from_slice(alloc, b"unfit"),
-        _ => Vec::from_slice(alloc, b"fits and apply differ"),
-    }
-}
-
-fn updated_text(alloc: Global, update: &[u8], body: &[u8]) -> Result<Vec<u8>, OutOfMemory> {
-    let (Ok(update), Ok(body)) = (read_value(alloc, update), read_value(alloc, body)) else {
-        return Vec::from_slice(alloc, b"no value");
-    };
-    updated(alloc, &update, &body)
-}
-
 fn push_times(out: &mut Vec<u8>, times: usize, piece: &str) -> Result<(), OutOfMemory> {
     for _ in 0..times {
         out.extend_from_slice(piece.as_bytes())?;
@@ -217,26 +166,67 @@ fn deep_body(alloc: Global, levels: usize) -> Result<Vec<u8>, OutOfMemory> {
     Ok(text)
 }
 
+/// A fault, and the name or path that it names.
+fn told(fault: &UpdateFault) -> (&'static str, &str) {
+    match fault {
+        UpdateFault::NotOperators => ("NotOperators", ""),
+        UpdateFault::Empty => ("Empty", ""),
+        UpdateFault::UnknownOperator(name) => ("UnknownOperator", name.as_str()),
+        UpdateFault::BadPath(path) => ("BadPath", path.as_str()),
+        UpdateFault::BadOperand(path) => ("BadOperand", path.as_str()),
+        UpdateFault::Conflict(path) => ("Conflict", path.as_str()),
+        UpdateFault::OutOfMemory => ("OutOfMemory", ""),
+    }
+}
+
+fn is_read_as(alloc: Global, text: &str, expected: &str) -> Result<bool, Fail> {
+    let value = read_value(alloc, text.as_bytes())?;
+    match Update::read(alloc, &value) {
+        Ok(update) => Ok(expected == "read" && update.copy(alloc)?.source().equals(&value)),
+        Err(fault) => Ok(told(&fault) == expected.split_once(' ').unwrap_or((expected, ""))),
+    }
+}
+
 #[test]
 fn updates_are_read(rt: HostRuntime) -> Result<(), Fail> {
     for (text, expected) in &READINGS {
-        let shown = reading(rt.alloc(), text.as_bytes())?;
-        assert_eq!(rt; shown.as_slice(), expected.as_bytes());
+        assert!(rt; is_read_as(rt.alloc(), text, expected)?, "{text}");
     }
     Ok(())
+}
+
+/// The value after the update, where it fits; both calls must agree.
+fn updated(alloc: Global, update: &[u8], value: &[u8]) -> Result<Option<Value>, Fail> {
+    let value = read_value(alloc, value)?;
+    let update = read_value(alloc, update)?;
+    let update = Update::read(alloc, &update).ok().ok_or("no update")?;
+    let after = apply(alloc, &update, &value)?;
+    if after.is_some() != fits(&update, &value) {
+        return Err("fits and apply differ".into());
+    }
+    Ok(after)
+}
+
+fn becomes(alloc: Global, update: &str, value: &str, expected: &str) -> Result<bool, Fail> {
+    match updated(alloc, update.as_bytes(), value.as_bytes())? {
+        Some(after) => Ok(print_value(alloc, &after)?.as_slice() == expected.as_bytes()),
+        None => Ok(expected == "unfit"),
+    }
 }
 
 #[test]
 fn updates_are_applied(rt: HostRuntime) -> Result<(), Fail> {
     for (update, value, expected) in &SCALARS {
-        let shown = updated_text(rt.alloc(), update.as_bytes(), value.as_bytes())?;
-        assert_eq!(rt; shown.as_slice(), expected.as_bytes());
+        assert!(rt;
+            becomes(rt.alloc(), update, value, expected)?,
+            "{update} {value}"
+        );
     }
     for (operator, parts, levels, beside, fit) in &LEVELS {
         let update = deep_update(rt.alloc(), operator, *parts, *levels)?;
         let body = deep_body(rt.alloc(), *beside)?;
-        let shown = updated_text(rt.alloc(), update.as_slice(), body.as_slice())?;
-        assert_eq!(rt; shown.as_slice() != b"unfit".as_slice(), *fit);
+        let after = updated(rt.alloc(), update.as_slice(), body.as_slice())?;
+        assert!(rt; after.is_some() == *fit, "{operator} {parts} {levels}");
     }
     Ok(())
 }

@@ -112,6 +112,12 @@ static BODIES: [(&[u8], &[u8]); 26] = [
     (b"null", b"NotObject"),
 ];
 
+/// The same for the id 7.
+static NUMBERED: [(&[u8], &[u8]); 2] = [
+    (b"{\"_id\":7,\"a\":1}", b"{\"a\":1}"),
+    (b"{\"_id\":\"7\"}", b"_id"),
+];
+
 /// Two values, and whether they are equal.
 static PAIRS: [(&[u8], &[u8], bool); 8] = [
     (b"{\"a\":1,\"b\":[2]}", b"{\"b\":[2],\"a\":1}", true),
@@ -124,30 +130,45 @@ static PAIRS: [(&[u8], &[u8], bool); 8] = [
     (b"[]", b"{}", false),
 ];
 
-/// The compact text of the value of a JSON text, or the name of the fault.
-fn read_again(alloc: Global, text: &[u8]) -> Result<Vec<u8>, OutOfMemory> {
-    match read_value(alloc, text) {
-        Ok(value) => print_value(alloc, &value),
-        Err(ValueFault::NotJson) => Vec::from_slice(alloc, b"NotJson"),
-        Err(ValueFault::TooDeep) => Vec::from_slice(alloc, b"TooDeep"),
-        Err(ValueFault::BadName) => Vec::from_slice(alloc, b"BadName"),
-        Err(ValueFault::NotWhole) => Vec::from_slice(alloc, b"NotWhole"),
-        Err(ValueFault::OutOfMemory) => Vec::from_slice(alloc, b"OutOfMemory"),
+fn value_fault(fault: &ValueFault) -> &'static [u8] {
+    match fault {
+        ValueFault::NotJson => b"NotJson",
+        ValueFault::TooDeep => b"TooDeep",
+        ValueFault::BadName => b"BadName",
+        ValueFault::NotWhole => b"NotWhole",
+        ValueFault::OutOfMemory => b"OutOfMemory",
     }
 }
 
-/// The body's compact text, or the name of the fault.
-fn body_again(alloc: Global, text: &[u8], id: &DocId) -> Result<Vec<u8>, OutOfMemory> {
-    let Ok(value) = read_value(alloc, text) else {
-        return Vec::from_slice(alloc, b"no value");
-    };
-    match read_body(alloc, &value, id) {
-        Ok(body) => print_value(alloc, &body),
-        Err(BodyFault::NotObject) => Vec::from_slice(alloc, b"NotObject"),
-        Err(BodyFault::TooDeep) => Vec::from_slice(alloc, b"TooDeep"),
-        Err(BodyFault::BadField(name)) => Vec::from_slice(alloc, name.as_bytes()),
-        Err(BodyFault::OutOfMemory) => Vec::from_slice(alloc, b"OutOfMemory"),
+/// Whether the value of a JSON text prints as expected, and its copy is equal; or the fault is that.
+fn is_read_as(alloc: Global, text: &[u8], expected: &[u8]) -> Result<bool, OutOfMemory> {
+    match read_value(alloc, text) {
+        Ok(value) => is_printed_as(alloc, &value, expected),
+        Err(fault) => Ok(value_fault(&fault) == expected),
     }
+}
+
+fn is_printed_as(alloc: Global, value: &Value, expected: &[u8]) -> Result<bool, OutOfMemory> {
+    let copy = value.copy(alloc)?;
+    let shown = print_value(alloc, &copy)?;
+    Ok(copy.equals(value) && shown.as_slice() == expected)
+}
+
+#[test]
+fn values_are_read_and_printed(rt: HostRuntime) -> Result<(), Fail> {
+    for (text, expected) in &VALUES {
+        assert!(rt; is_read_as(rt.alloc(), text, expected)?);
+    }
+    Ok(())
+}
+
+#[test]
+fn texts_and_values_are_pushed(rt: HostRuntime) -> Result<(), Fail> {
+    let mut out = Vec::from_slice(rt.alloc(), b"id:")?;
+    push_text(&mut out, "a\"b")?;
+    push_value(&mut out, &Value::Int(-7))?;
+    assert!(rt; out.as_slice() == b"id:\"a\\\"b\"-7".as_slice());
+    Ok(())
 }
 
 /// A number inside so many lists or objects.
@@ -163,97 +184,81 @@ fn nested(alloc: Global, depth: usize, open: &[u8], close: u8) -> Result<Vec<u8>
     Ok(text)
 }
 
-/// `read` where what was printed is the text itself, else what was printed.
-fn or_read(alloc: Global, shown: Vec<u8>, text: &[u8]) -> Result<Vec<u8>, OutOfMemory> {
-    if shown.as_slice() == text {
-        return Vec::from_slice(alloc, b"read");
-    }
-    Ok(shown)
+/// Whether the text is read as itself where `read` is expected, and else as told.
+fn is_value_or(alloc: Global, text: &[u8], expected: &[u8]) -> Result<bool, OutOfMemory> {
+    is_read_as(
+        alloc,
+        text,
+        if expected == b"read".as_slice() {
+            text
+        } else {
+            expected
+        },
+    )
 }
 
-/// The compact text of a copy, and of nothing where the copy is not equal.
-fn copied_again(alloc: Global, text: &[u8]) -> Result<Vec<u8>, OutOfMemory> {
-    let Ok(value) = read_value(alloc, text) else {
-        return Ok(Vec::new(alloc));
+fn is_body_or(alloc: Global, text: &[u8], expected: &[u8]) -> Result<bool, OutOfMemory> {
+    let expected = if expected == b"read".as_slice() {
+        text
+    } else {
+        expected
     };
-    let copy = value.copy(alloc)?;
-    if !copy.equals(&value) {
-        return Ok(Vec::new(alloc));
-    }
-    if let Value::Object(fields) = &value {
-        for field in fields.as_slice() {
-            let _copy = field.copy(alloc)?;
-        }
-    }
-    print_value(alloc, &copy)
-}
-
-#[test]
-fn values_are_read_and_printed(rt: HostRuntime) -> Result<(), Fail> {
-    for (text, expected) in &VALUES {
-        let shown = read_again(rt.alloc(), text)?;
-        assert_eq!(rt; shown.as_slice(), *expected);
-    }
-    let mut shown = copied_again(rt.alloc(), b"{\"b\":1,\"a\":[]}")?;
-    push_text(&mut shown, "a\"b")?;
-    push_value(&mut shown, &Value::Int(-7))?;
-    assert_eq!(rt;
-        shown.as_slice(),
-        b"{\"a\":[],\"b\":1}\"a\\\"b\"-7".as_slice()
-    );
-    Ok(())
+    is_body(alloc, text, &DocId::Int(0), expected)
 }
 
 #[test]
 fn nesting_has_its_limits(rt: HostRuntime) -> Result<(), Fail> {
-    let id = DocId::Int(0);
     for (depth, as_value, as_body) in &LIMITS {
         let text = nested(rt.alloc(), *depth, b"[", b']')?;
-        let shown = read_again(rt.alloc(), text.as_slice())?;
-        let outcome = or_read(rt.alloc(), shown, text.as_slice())?;
-        assert_eq!(rt; outcome.as_slice(), *as_value);
+        assert!(rt; is_value_or(rt.alloc(), text.as_slice(), as_value)?);
         let text = nested(rt.alloc(), *depth, b"{\"a\":", b'}')?;
-        let shown = body_again(rt.alloc(), text.as_slice(), &id)?;
-        let outcome = or_read(rt.alloc(), shown, text.as_slice())?;
-        assert_eq!(rt; outcome.as_slice(), *as_body);
+        assert!(rt; is_body_or(rt.alloc(), text.as_slice(), as_body)?);
     }
     Ok(())
+}
+
+fn body_fault(fault: &BodyFault) -> &[u8] {
+    match fault {
+        BodyFault::NotObject => b"NotObject",
+        BodyFault::TooDeep => b"TooDeep",
+        BodyFault::BadField(name) => name.as_bytes(),
+        BodyFault::OutOfMemory => b"OutOfMemory",
+    }
+}
+
+/// Whether the body of that id prints as expected, or the fault is that.
+fn is_body(alloc: Global, text: &[u8], id: &DocId, expected: &[u8]) -> Result<bool, OutOfMemory> {
+    let Ok(value) = read_value(alloc, text) else {
+        return Ok(expected == b"no value".as_slice());
+    };
+    match read_body(alloc, &value, id) {
+        Ok(body) => is_printed_as(alloc, &body, expected),
+        Err(fault) => Ok(body_fault(&fault) == expected),
+    }
 }
 
 #[test]
 fn bodies_are_read(rt: HostRuntime) -> Result<(), Fail> {
-    let id = DocId::Text(Text::from_str(rt.alloc(), "x")?);
+    let id = DocId::Text(Text::from_str(rt.alloc(), "x")?).copy(rt.alloc())?;
     for (text, expected) in &BODIES {
-        let shown = body_again(rt.alloc(), text, &id)?;
-        assert_eq!(rt; shown.as_slice(), *expected);
+        assert!(rt; is_body(rt.alloc(), text, &id, expected)?);
     }
-    let number = DocId::Int(7).copy(rt.alloc())?;
-    let shown = body_again(rt.alloc(), b"{\"_id\":7,\"a\":1}", &number)?;
-    assert_eq!(rt; shown.as_slice(), b"{\"a\":1}".as_slice());
-    let shown = body_again(rt.alloc(), b"{\"_id\":\"7\"}", &number)?;
-    assert_eq!(rt; shown.as_slice(), b"_id".as_slice());
+    for (text, expected) in &NUMBERED {
+        assert!(rt; is_body(rt.alloc(), text, &DocId::Int(7), expected)?);
+    }
     Ok(())
 }
 
+fn are_equal(alloc: Global, first: &[u8], second: &[u8]) -> Result<bool, Fail> {
+    let first = read_value(alloc, first)?;
+    let second = read_value(alloc, second)?;
+    Ok(first.equals(&second))
+}
+
 #[test]
-fn values_and_ids_are_compared(rt: HostRuntime) -> Result<(), Fail> {
+fn values_are_compared(rt: HostRuntime) -> Result<(), Fail> {
     for (first, second, same) in &PAIRS {
-        let first = read_value(rt.alloc(), first).ok().ok_or("not read")?;
-        let second = read_value(rt.alloc(), second).ok().ok_or("not read")?;
-        assert_eq!(rt; first.equals(&second), *same);
-    }
-    let ids = [
-        DocId::Text(Text::from_str(rt.alloc(), "a")?),
-        DocId::Text(Text::from_str(rt.alloc(), "ab")?),
-        DocId::Text(Text::from_str(rt.alloc(), "b")?),
-        DocId::Int(-3),
-        DocId::Int(20),
-    ];
-    for i in 0..ids.len() {
-        for k in 0..ids.len() {
-            assert_eq!(rt; ids[i].compare(&ids[k]), i.cmp(&k));
-            assert_eq!(rt; ids[i].equals(&ids[k]), i == k);
-        }
+        assert!(rt; are_equal(rt.alloc(), first, second)? == *same);
     }
     Ok(())
 }
