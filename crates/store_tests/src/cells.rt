@@ -92,10 +92,10 @@ fn nonces_end_and_the_greater_epoch_owns(rt: HostRuntime) -> Result<(), Fail> {
     let alloc = rt.alloc();
     assert!(rt; draws(4_294_967_294));
     assert!(rt; !draws(4_294_967_295));
-    assert_eq!(rt; counter_after(alloc)?, Some(1));
-    assert_eq!(rt; owner_at(alloc, 0, -1)?, Side::Stash);
-    assert_eq!(rt; owner_at(alloc, 1, -1)?, Side::Document);
-    assert_eq!(rt; owner_at(alloc, 2, -3)?, Side::Stash);
-    assert_eq!(rt; owner(None, None), Side::Neither);
+    assert!(rt; counter_after(alloc)? == Some(1));
+    assert!(rt; owner_at(alloc, 0, -1)? == Side::Stash);
+    assert!(rt; owner_at(alloc, 1, -1)? == Side::Document);
+    assert!(rt; owner_at(alloc, 2, -3)? == Side::Stash);
+    assert!(rt; owner(None, None) == Side::Neither);
     Ok(())
 }

@@ -58,14 +58,40 @@ static ORDER: [[&str; 4]; 6] = [
     ["k", "9", "k", "10"],
 ];
 
-fn value(alloc: Global, json: &str) -> Result<Value, Fail> {
-    Ok(read_value(alloc, json.as_bytes())?)
+/// Whether the text is that of the token which prints so, or none where that is empty.
+fn is_token(alloc: Global, text: &str, again: &str) -> Result<bool, OutOfMemory> {
+    match Token::read(text.as_bytes()) {
+        Some(token) => Ok(token.print(alloc)?.as_slice() == again.as_bytes()),
+        None => Ok(again.is_empty()),
+    }
 }
 
-fn key(alloc: Global, c: &str, d: &str) -> Result<Key, Fail> {
-    let c = Value::Text(Text::from_str(alloc, c)?);
-    let d = value(alloc, d)?;
-    Ok(Key::read(alloc, &c, &d)?.ok_or("no key")?)
+/// Whether an id and a nonce are read from their digits, and stand as they should.
+fn is_id(alloc: Global) -> Result<bool, Fail> {
+    let token = Token::read(b"00000000000000000000000a_00010203").ok_or("no token")?;
+    let later = TxnId::read(b"010000000000000000000000").ok_or("no id")?;
+    let text = token.id.print(alloc)?;
+    Ok(
+        token.nonce == 66051
+            && text.as_slice() == b"00000000000000000000000a".as_slice()
+            && token.id.compare(&later) == Ordering::Less
+            && TxnId::read(b"00000000000000000000000").is_none(),
+    )
+}
+
+#[test]
+fn tokens_and_ids_are_read(rt: HostRuntime) -> Result<(), Fail> {
+    for (text, again) in &TOKENS {
+        assert!(rt; is_token(rt.alloc(), text, again)?, "{text}");
+    }
+    assert!(rt; is_id(rt.alloc())?);
+    Ok(())
+}
+
+fn is_key(alloc: Global, c: &str, d: &str) -> Result<bool, Fail> {
+    let c = read_value(alloc, c.as_bytes())?;
+    let d = read_value(alloc, d.as_bytes())?;
+    Ok(Key::read(alloc, &c, &d)?.is_some())
 }
 
 /// A text of so many bytes.
@@ -77,53 +103,42 @@ fn long(alloc: Global, length: usize) -> Result<Value, OutOfMemory> {
     Ok(Value::Text(Text::from_str(alloc, text.as_str())?))
 }
 
-/// The token's text again, in lower case; empty where there is none.
-fn token_again(alloc: Global, text: &str) -> Result<Vec<u8>, Fail> {
-    match Token::read(text.as_bytes()) {
-        Some(token) => Ok(token.print(alloc)?),
-        None => Ok(Vec::new(alloc)),
-    }
+fn is_long_key(alloc: Global, c: usize, d: usize) -> Result<bool, OutOfMemory> {
+    let c = long(alloc, c)?;
+    let d = long(alloc, d)?;
+    Ok(Key::read(alloc, &c, &d)?.is_some())
 }
 
 #[test]
-fn tokens_and_keys_are_read(rt: HostRuntime) -> Result<(), Fail> {
-    for (text, again) in &TOKENS {
-        let shown = token_again(rt.alloc(), text)?;
-        assert_eq!(rt; shown.as_slice(), again.as_bytes(), "{text}");
+fn keys_are_read(rt: HostRuntime) -> Result<(), Fail> {
+    for (c, d, is) in &KEYS {
+        assert!(rt; is_key(rt.alloc(), c, d)? == *is, "{c} {d}");
     }
-    let token = Token::read(b"00000000000000000000000a_00010203").ok_or("no token")?;
-    assert_eq!(rt; token.nonce, 66051);
-    let text = token.id.print(rt.alloc())?;
-    assert_eq!(rt; text.as_slice(), b"00000000000000000000000a".as_slice());
-    let later = TxnId::read(b"010000000000000000000000").ok_or("no id")?;
-    assert!(rt; token.id.compare(&later) == Ordering::Less);
-    assert!(rt; TxnId::read(b"00000000000000000000000").is_none());
-    for (c, d, is_key) in &KEYS {
-        let read = Key::read(rt.alloc(), &value(rt.alloc(), c)?, &value(rt.alloc(), d)?)?;
-        assert!(rt; read.is_some() == *is_key, "{c} {d}");
-    }
-    for (c, d, is_key) in &LENGTHS {
-        let read = Key::read(rt.alloc(), &long(rt.alloc(), *c)?, &long(rt.alloc(), *d)?)?;
-        assert!(rt; read.is_some() == *is_key, "{c} {d}");
+    for (c, d, is) in &LENGTHS {
+        assert!(rt; is_long_key(rt.alloc(), *c, *d)? == *is, "{c} {d}");
     }
     Ok(())
 }
 
-fn stands_before(
-    alloc: Global,
-    c: &str,
-    d: &str,
-    other_c: &str,
-    other_d: &str,
-) -> Result<bool, Fail> {
-    let lesser = key(alloc, c, d)?;
-    let greater = key(alloc, other_c, other_d)?;
-    let copy = lesser.copy(alloc)?;
-    Ok(
-        lesser.compare(&greater) == Ordering::Less
-            && lesser.equals(&copy)
-            && !lesser.equals(&greater),
-    )
+fn key(alloc: Global, c: &str, d: &str) -> Result<Key, Fail> {
+    let c = Value::Text(Text::from_str(alloc, c)?);
+    let d = read_value(alloc, d.as_bytes())?;
+    Ok(Key::read(alloc, &c, &d)?.ok_or("no key")?)
+}
+
+fn stands_before(alloc: Global, first: [&str; 2], second: [&str; 2]) -> Result<bool, Fail> {
+    let lesser = key(alloc, first[0], first[1])?.copy(alloc)?;
+    let greater = key(alloc, second[0], second[1])?;
+    Ok(lesser.compare(&greater) == Ordering::Less && !lesser.equals(&greater))
+}
+
+/// Whether keys of which one stands twice, the greater first, become two in order.
+fn are_distinct(alloc: Global, first: &Key, last: &Key) -> Result<bool, OutOfMemory> {
+    let keys = Vec::from_slice(alloc, &[last, first, last])?;
+    match distinct_keys(alloc, keys)?.as_slice() {
+        [one, other] => Ok(one.equals(first) && other.equals(last)),
+        _ => Ok(false),
+    }
 }
 
 fn only_document(alloc: Global, doc: Doc) -> Result<Docs, OutOfMemory> {
@@ -137,21 +152,18 @@ fn only_document(alloc: Global, doc: Doc) -> Result<Docs, OutOfMemory> {
 fn keys_stand_in_order(rt: HostRuntime) -> Result<(), Fail> {
     for [c, d, other_c, other_d] in &ORDER {
         assert!(rt;
-            stands_before(rt.alloc(), c, d, other_c, other_d)?,
-            "{c} {d} {other_c} {other_d}"
+            stands_before(rt.alloc(), [c, d], [other_c, other_d])?,
+            "{c} {d}"
         );
     }
-    let last = key(rt.alloc(), "l", "1")?;
-    let first = key(rt.alloc(), "k", "2")?;
-    let keys = Vec::from_slice(rt.alloc(), &[&last, &first, &last])?;
-    let distinct = distinct_keys(rt.alloc(), keys)?;
-    let distinct = distinct.as_slice();
-    assert_eq!(rt; distinct.len(), 2);
-    assert!(rt; distinct[0].equals(&first) && distinct[1].equals(&last));
-    let doc = Doc {
-        key: first,
-        body: value(rt.alloc(), "{}")?,
-    };
-    assert_eq!(rt; only_document(rt.alloc(), doc)?.as_slice().len(), 1);
+    let key = key(rt.alloc(), "k", "2")?;
+    assert!(rt; are_distinct(rt.alloc(), &key, &self::key(rt.alloc(), "l", "1")?)?);
+    let body = Value::Null;
+    assert!(rt;
+        only_document(rt.alloc(), Doc { key, body })?
+            .as_slice()
+            .len()
+            == 1
+    );
     Ok(())
 }

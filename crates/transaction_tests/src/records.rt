@@ -3,7 +3,7 @@ ghost use Rattle.std.specs.Prelude.{◌≡◌};
 ghost use Rattle.std.specs.List.{list_all};
 ghost use Rattle.txn_record.specs.Chain.{has_room};
 
-use doc_value::{Value, read_value};
+use doc_value::{OutOfMemory, Value, read_value};
 use sqlite_items::Items;
 use std::alloc::Global;
 use std::test::Fail;
@@ -63,12 +63,18 @@ static CHAINS: [(&str, &[i64], &[i64], &[i64]); 8] = [
     ),
 ];
 
-fn value(alloc: Global, json: &str) -> Result<Value, Fail> {
-    Ok(read_value(alloc, json.as_bytes())?)
-}
+/// States with their numbers, and whether they are settled and decided.
+static STATES: [(State, u8, bool, bool); 6] = [
+    (State::Preparing, 1, false, false),
+    (State::Prepared, 2, false, true),
+    (State::Aborting, 3, true, true),
+    (State::Applying, 4, false, true),
+    (State::Aborted, 5, true, true),
+    (State::Applied, 6, true, true),
+];
 
 fn read_ops(alloc: Global, json: &str) -> Result<Ops, Fail> {
-    let value = value(alloc, json)?;
+    let value = read_value(alloc, json.as_bytes())?;
     Ok(Ops::read(alloc, &value).ok().ok_or("no operations")?)
 }
 
@@ -78,63 +84,65 @@ fn all_have_room(numbers: &[i64]) -> bool
     numbers.iter().all(|number| has_room(*number))
 }
 
-fn chained(alloc: Global, json: &str, first: &[i64]) -> Result<Chained, Fail> {
-    let ops = read_ops(alloc, json)?;
+fn chained(alloc: Global, ops: &Ops, first: &[i64]) -> Result<Chained, Fail> {
     if first.len() != ops.keys(alloc)?.len() || !all_have_room(first) {
         return Err("no first numbers".into());
     }
-    Ok(chain(alloc, &ops, first)?.copy(alloc)?)
+    Ok(chain(alloc, ops, first)?.copy(alloc)?)
+}
+
+fn is_chain(
+    alloc: Global,
+    json: &str,
+    first: &[i64],
+    found: &[i64],
+    last: &[i64],
+) -> Result<bool, Fail> {
+    let ops = read_ops(alloc, json)?;
+    let chained = chained(alloc, &ops, first)?;
+    Ok(chained.found.as_slice() == found && chained.last.as_slice() == last)
 }
 
 #[test]
 fn chains_are_followed(rt: HostRuntime) -> Result<(), Fail> {
     for (json, first, found, last) in &CHAINS {
-        let chained = chained(rt.alloc(), json, first)?;
-        assert_eq!(rt; chained.found.as_slice(), *found, "{json}");
-        assert_eq!(rt; chained.last.as_slice(), *last, "{json}");
+        assert!(rt; is_chain(rt.alloc(), json, first, found, last)?, "{json}");
     }
     Ok(())
 }
 
-fn record_of(alloc: Global, state: State) -> Result<Record, Fail> {
-    Ok(Record {
+fn copied_record(alloc: Global, state: State, ops: Ops) -> Result<Record, OutOfMemory> {
+    let record = Record {
         id: TxnId([7; 12]),
         state,
-        info: Some(value(alloc, "{\"by\":\"me\"}")?),
-        ops: read_ops(alloc, "[{\"c\":\"k\",\"d\":7,\"u\":{\"$set\":{\"v\":1}}}]")?,
+        info: Some(Value::Int(1)),
+        ops,
         nonce: Some(3),
         revnos: Some(Items::from_slice(alloc, &[0])?),
-    })
+    };
+    record.copy(alloc)
+}
+
+fn copied_entry(alloc: Global, ops: Ops) -> Result<Entry, OutOfMemory> {
+    let entry = Entry {
+        id: TxnId([7; 12]),
+        ops,
+        outcome: Outcome::Applied,
+        revnos: Items::from_slice(alloc, &[4])?,
+        at: 9,
+    };
+    entry.copy(alloc)
 }
 
 #[test]
 fn records_and_entries_are_copied(rt: HostRuntime) -> Result<(), Fail> {
-    let rows = [
-        (State::Preparing, 1, false, false),
-        (State::Prepared, 2, false, true),
-        (State::Aborting, 3, true, true),
-        (State::Applying, 4, false, true),
-        (State::Aborted, 5, true, true),
-        (State::Applied, 6, true, true),
-    ];
-    for (state, number, settled, decided) in rows {
-        let record = record_of(rt.alloc(), state)?.copy(rt.alloc())?;
-        assert_eq!(rt; state.number(), number);
-        assert!(rt;
-            record.is_settled() == settled && record.is_decided() == decided,
-            "{number}"
-        );
+    let json = r#"[{"c":"k","d":7,"u":{"$set":{"v":1}}}]"#;
+    for (state, number, settled, decided) in STATES {
+        let record = copied_record(rt.alloc(), state, read_ops(rt.alloc(), json)?)?;
+        assert!(rt; state.number() == number);
+        assert!(rt; record.is_settled() == settled && record.is_decided() == decided);
     }
-    let record = record_of(rt.alloc(), State::Applied)?;
-    let entry = Entry {
-        id: record.id,
-        ops: record.ops,
-        outcome: Outcome::Applied,
-        revnos: Items::from_slice(rt.alloc(), &[4])?,
-        at: 9,
-    };
-    let entry = entry.copy(rt.alloc())?;
-    assert_eq!(rt; entry.ops.as_slice().len(), 1);
-    assert!(rt; entry.revnos.as_slice().first() == Some(&4));
+    let entry = copied_entry(rt.alloc(), read_ops(rt.alloc(), json)?)?;
+    assert!(rt; entry.revnos.as_slice() == [4].as_slice());
     Ok(())
 }

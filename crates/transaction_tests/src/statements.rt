@@ -298,77 +298,91 @@ static COUNTED: [(&str, usize, &str); 4] = [
 
 const OPERATION: &str = r#"{"c":"k","d":"a","a":"d-"},"#;
 
-/// The kind of a line, or the text that refuses it.
-fn reading(alloc: Global, line: &[u8]) -> Result<String, OutOfMemory> {
-    match read_line(alloc, line) {
-        Ok(None) => String::from_str(alloc, "nothing"),
-        Ok(Some(statement)) => match statement.copy(alloc)? {
-            Statement::Doc { .. } => String::from_str(alloc, "doc"),
-            Statement::Submit { info: None, .. } => String::from_str(alloc, "submit"),
-            Statement::Submit { .. } => String::from_str(alloc, "submit with info"),
-            Statement::Go => String::from_str(alloc, "go"),
-            Statement::Show => String::from_str(alloc, "show"),
-        },
-        Err(fault) => String::from_str(alloc, fault.text(alloc)?.as_str()),
+fn kind(statement: &Statement) -> &'static str {
+    match statement {
+        Statement::Doc { .. } => "doc",
+        Statement::Submit { info: None, .. } => "submit",
+        Statement::Submit { .. } => "submit with info",
+        Statement::Go => "go",
+        Statement::Show => "show",
     }
+}
+
+/// Whether a line has that kind, or is refused by that text.
+fn is_read_as(alloc: Global, line: &[u8], expected: &str) -> Result<bool, OutOfMemory> {
+    match read_line(alloc, line) {
+        Ok(None) => Ok(expected == "nothing"),
+        Ok(Some(statement)) => Ok(kind(&statement.copy(alloc)?) == expected),
+        Err(fault) => Ok(fault.text(alloc)?.as_str() == expected),
+    }
+}
+
+#[test]
+fn lines_are_read_or_refused(rt: HostRuntime) -> Result<(), Fail> {
+    for (line, expected) in LINES.iter().chain(DOUBLY_FAULTY.iter()) {
+        assert!(rt;
+            is_read_as(rt.alloc(), line.as_bytes(), expected)?,
+            "{line}"
+        );
+    }
+    assert!(rt; is_read_as(rt.alloc(), b"# \xff\xfe", "nothing")?);
+    assert!(rt; is_read_as(rt.alloc(), b"\xff", "not JSON")?);
+    assert!(rt; ScriptFault::OutOfMemory.text(rt.alloc())?.as_str() == "out of memory");
+    Ok(())
 }
 
 fn submission(alloc: Global, ops: &str) -> Result<String, OutOfMemory> {
     format!(in alloc; "{{\"txn\":\"000000000000000000000001\",\"ops\":[{ops}]}}")
 }
 
+fn push_times(out: &mut String, times: usize, piece: &str) -> Result<(), OutOfMemory> {
+    for _ in 0..times {
+        out.push_str(piece)?;
+    }
+    Ok(())
+}
+
 /// The line with so many copies of two texts, one before and one after, in the place of its `@`.
-fn filled(
-    alloc: Global,
-    line: &str,
-    times: usize,
-    opening: &str,
-    closing: &str,
-) -> Result<String, Fail> {
+fn filled(alloc: Global, line: &str, times: usize, pieces: [&str; 2]) -> Result<String, Fail> {
     let (before, after) = line.split_once('@').ok_or("no @")?;
     let mut whole = String::from_str(alloc, before)?;
-    for _ in 0..times {
-        whole.push_str(opening)?;
-    }
-    for _ in 0..times {
-        whole.push_str(closing)?;
-    }
+    push_times(&mut whole, times, pieces[0])?;
+    push_times(&mut whole, times, pieces[1])?;
     whole.push_str(after)?;
     Ok(whole)
 }
 
-#[test]
-fn lines_are_read_or_refused(rt: HostRuntime) -> Result<(), Fail> {
-    let alloc = rt.alloc();
-    for (line, expected) in LINES.iter().chain(DOUBLY_FAULTY.iter()) {
-        let read = reading(alloc, line.as_bytes())?;
-        assert_eq!(rt; read.as_str(), *expected, "{line}");
-    }
-    for (ops, expected) in &OPERATIONS {
-        let line = submission(alloc, ops)?;
-        let read = reading(alloc, line.as_bytes())?;
-        assert_eq!(rt; read.as_str(), *expected, "{ops}");
-    }
-    assert_eq!(rt; reading(alloc, b"# \xff\xfe")?.as_str(), "nothing");
-    assert_eq!(rt; reading(alloc, b"\xff")?.as_str(), "not JSON");
-    let want = ScriptFault::OutOfMemory.text(alloc)?;
-    assert_eq!(rt; want.as_str(), "out of memory");
-    Ok(())
+fn is_submission(alloc: Global, ops: &str, expected: &str) -> Result<bool, OutOfMemory> {
+    let line = submission(alloc, ops)?;
+    is_read_as(alloc, line.as_bytes(), expected)
+}
+
+fn is_counted(alloc: Global, ops: &str, count: usize, expected: &str) -> Result<bool, Fail> {
+    let ops = filled(alloc, ops, count, [OPERATION, ""])?;
+    Ok(is_submission(alloc, ops.as_str(), expected)?)
+}
+
+fn is_nested(alloc: Global, line: &str, depth: usize, expected: &str) -> Result<bool, Fail> {
+    let line = filled(alloc, line, depth, ["[", "]"])?;
+    Ok(is_read_as(alloc, line.as_bytes(), expected)?)
 }
 
 #[test]
-fn depths_and_counts_are_bounded(rt: HostRuntime) -> Result<(), Fail> {
-    let alloc = rt.alloc();
-    for (line, depth, expected) in &NESTED {
-        let whole = filled(alloc, line, *depth, "[", "]")?;
-        let read = reading(alloc, whole.as_bytes())?;
-        assert_eq!(rt; read.as_str(), *expected, "{line} {depth}");
+fn operations_have_faults_and_limits(rt: HostRuntime) -> Result<(), Fail> {
+    for (ops, expected) in &OPERATIONS {
+        assert!(rt; is_submission(rt.alloc(), ops, expected)?, "{ops}");
     }
     for (ops, count, expected) in &COUNTED {
-        let whole = filled(alloc, ops, *count, OPERATION, "")?;
-        let line = submission(alloc, whole.as_str())?;
-        let read = reading(alloc, line.as_bytes())?;
-        assert_eq!(rt; read.as_str(), *expected, "{ops} {count}");
+        assert!(rt;
+            is_counted(rt.alloc(), ops, *count, expected)?,
+            "{ops} {count}"
+        );
+    }
+    for (line, depth, expected) in &NESTED {
+        assert!(rt;
+            is_nested(rt.alloc(), line, *depth, expected)?,
+            "{line} {depth}"
+        );
     }
     Ok(())
 }

@@ -1,6 +1,7 @@
 //! Lines of a source, and pieces put to a sink.
 ghost use Rattle.std.specs.Prelude.{[], false};
 
+use doc_value::OutOfMemory;
 use std::alloc::Global;
 use std::test::Fail;
 use txn_io::{Failed, LineFault, Lines, MemorySink, MemorySource, PourFault, Sink, Source, pour};
@@ -39,6 +40,7 @@ impl<T: Sink> Sink for ByteWise<T> {
     }
 }
 
+/// Scripts, and their lines, each followed by a bar.
 const SCRIPTS: [(&[u8], &[u8]); 6] = [
     (b"", b""),
     (b"\n", b"|"),
@@ -47,34 +49,6 @@ const SCRIPTS: [(&[u8], &[u8]); 6] = [
     (b"ab\n\ncd", b"ab||cd|"),
     (b"\r\n{}\n\n", b"\r|{}||"),
 ];
-
-/// The lines of a short script, each followed by a bar.
-fn barred<S: Source>(alloc: Global, source: &mut S) -> Result<Vec<u8>, LineFault> {
-    let mut lines = Lines::new();
-    let mut all = Vec::new(alloc);
-    for _ in 0..10 {
-        match lines.next(alloc, source)? {
-            Some(line) => {
-                all.extend_from_slice(&line)?;
-                all.extend_from_slice(b"|")?;
-            }
-            None => break,
-        }
-    }
-    Ok(all)
-}
-
-#[test]
-fn lines_are_the_bytes_between_newlines(rt: HostRuntime) -> Result<(), Fail> {
-    let alloc = rt.alloc();
-    for (script, expected) in SCRIPTS {
-        let mut whole = MemorySource::new(script.to_vec(alloc)?, Vec::new(alloc));
-        assert_eq!(rt; barred(alloc, &mut whole)?.as_slice(), expected);
-        let mut slow = ByteWise(MemorySource::new(script.to_vec(alloc)?, Vec::new(alloc)));
-        assert_eq!(rt; barred(alloc, &mut slow)?.as_slice(), expected);
-    }
-    Ok(())
-}
 
 /// A source of lines of so many bytes, the last number for the first line.
 #[derive(Drop)]
@@ -108,44 +82,100 @@ impl Source for LongLines {
     }
 }
 
-#[test]
-fn lines_are_refused(rt: HostRuntime) -> Result<(), Fail> {
-    let alloc = rt.alloc();
+/// The lines of a short script, each followed by a bar.
+fn barred<S: Source>(alloc: Global, source: &mut S) -> Result<Vec<u8>, LineFault> {
+    let mut lines = Lines::new();
+    let mut all = Vec::new(alloc);
+    for _ in 0..10 {
+        let Some(line) = lines.next(alloc, source)? else {
+            break;
+        };
+        all.extend_from_slice(&line)?;
+        all.extend_from_slice(b"|")?;
+    }
+    Ok(all)
+}
+
+/// Whether a script has those lines, taken at once and byte by byte.
+fn has_lines(alloc: Global, script: &[u8], expected: &[u8]) -> Result<bool, Fail> {
+    let mut whole = MemorySource::new(script.to_vec(alloc)?, Vec::new(alloc));
+    let mut slow = ByteWise(MemorySource::new(script.to_vec(alloc)?, Vec::new(alloc)));
+    Ok(
+        barred(alloc, &mut whole)?.as_slice() == expected
+            && barred(alloc, &mut slow)?.as_slice() == expected,
+    )
+}
+
+/// How many lines are read, and the fault behind them, told twice.
+fn refused<S: Source>(alloc: Global, source: &mut S) -> (u64, Option<LineFault>) {
+    let mut lines = Lines::new();
+    for count in 0..3 {
+        if let Err(fault) = lines.next(alloc, source) {
+            let again = lines.next(alloc, source).err();
+            return (count, again.filter(|other| *other == fault));
+        }
+    }
+    (3, None)
+}
+
+/// Whether a failing source, and a line that is too long, are told behind a first line.
+fn are_refusals_told(alloc: Global) -> Result<bool, Fail> {
     let bytes = b"a\nb".to_vec(alloc)?;
     let mut failing = ByteWise(MemorySource::new(bytes, [3].to_vec(alloc)?));
-    let mut lines = Lines::new();
-    assert_eq!(rt; lines.next(alloc, &mut failing)?.is_some(), true);
-    for _ in 0..2 {
-        let refused = lines.next(alloc, &mut failing).err();
-        assert_eq!(rt; refused, Some(LineFault::ReadFault));
-    }
     let lengths = vec![in alloc; 16_777_217, 16_777_216]?;
     let mut long = LongLines { lengths };
-    let mut lines = Lines::new();
-    let longest = lines.next(alloc, &mut long)?;
-    assert_eq!(rt; longest.map_or(0, |line| line.len()), 16_777_216);
-    let longer = lines.next(alloc, &mut long).err();
-    assert_eq!(rt; longer, Some(LineFault::TooLong));
-    Ok(())
+    Ok(
+        refused(alloc, &mut failing) == (1, Some(LineFault::ReadFault))
+            && refused(alloc, &mut long) == (1, Some(LineFault::TooLong)),
+    )
 }
 
 #[test]
-fn a_piece_is_put_whole_or_a_fault_is_told(rt: HostRuntime) -> Result<(), Fail> {
-    let alloc = rt.alloc();
-    let mut slow = ByteWise(MemorySink::new(alloc, 4, Vec::new(alloc))?);
-    assert_eq!(rt; pour(&mut slow, b"abcd"), Ok(()));
-    assert_eq!(rt; slow.0.written(), b"abcd".as_slice());
-    assert_eq!(rt; pour(&mut slow, b""), Ok(()));
-    assert_eq!(rt; pour(&mut slow, b"e"), Err(PourFault::Sink));
+fn lines_are_the_bytes_between_newlines(rt: HostRuntime) -> Result<(), Fail> {
+    for (script, expected) in SCRIPTS {
+        assert!(rt; has_lines(rt.alloc(), script, expected)?);
+    }
+    assert!(rt; are_refusals_told(rt.alloc())?);
+    Ok(())
+}
 
-    let mut small = MemorySink::new(alloc, 3, Vec::new(alloc))?;
-    assert_eq!(rt; pour(&mut small, b"abcd"), Err(PourFault::Sink));
-    assert_eq!(rt; small.written(), b"abc".as_slice());
+/// A sink with so much room, of which the numbered call fails.
+fn sink(alloc: Global, room: u64, fails: u64) -> Result<MemorySink, OutOfMemory> {
+    MemorySink::new(alloc, room, vec![in alloc; fails]?)
+}
 
-    let mut failing = MemorySink::new(alloc, 8, [2].to_vec(alloc)?)?;
-    assert_eq!(rt; pour(&mut failing, b"ab"), Ok(()));
-    assert_eq!(rt; pour(&mut failing, b"cd"), Err(PourFault::Sink));
-    assert_eq!(rt; pour(&mut failing, b"ef"), Ok(()));
-    assert_eq!(rt; failing.written(), b"abef".as_slice());
+/// Whether a piece goes byte by byte into a sink that has room for it, and no more.
+fn is_put_slowly(alloc: Global) -> Result<bool, OutOfMemory> {
+    let mut slow = ByteWise(sink(alloc, 4, 0)?);
+    Ok(
+        pour(&mut slow, b"abcd") == Ok(())
+            && slow.0.written() == b"abcd".as_slice()
+            && pour(&mut slow, b"") == Ok(())
+            && pour(&mut slow, b"e") == Err(PourFault::Sink),
+    )
+}
+
+/// Whether as much is put as there is room for.
+fn is_put_in_part(alloc: Global) -> Result<bool, OutOfMemory> {
+    let mut small = sink(alloc, 3, 0)?;
+    Ok(pour(&mut small, b"abcd") == Err(PourFault::Sink) && small.written() == b"abc".as_slice())
+}
+
+/// Whether a sink that failed once takes what comes behind.
+fn is_put_again(alloc: Global) -> Result<bool, OutOfMemory> {
+    let mut failing = sink(alloc, 8, 2)?;
+    Ok(
+        pour(&mut failing, b"ab") == Ok(())
+            && pour(&mut failing, b"cd") == Err(PourFault::Sink)
+            && pour(&mut failing, b"ef") == Ok(())
+            && failing.written() == b"abef".as_slice(),
+    )
+}
+
+#[test]
+fn pieces_are_put_whole_or_a_fault_is_told(rt: HostRuntime) -> Result<(), Fail> {
+    assert!(rt; is_put_slowly(rt.alloc())?);
+    assert!(rt; is_put_in_part(rt.alloc())?);
+    assert!(rt; is_put_again(rt.alloc())?);
     Ok(())
 }
