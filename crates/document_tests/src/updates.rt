@@ -102,29 +102,29 @@ static SCALARS: [(&str, &str, &str); 5] = [
 
 /// An operator, how many parts its path has, how deep its operand nests and a list beside, and whether
 /// that fits.
-static LEVELS: [(&str, usize, usize, usize, bool); 22] = [
-    ("$set", 1, 89, 1, true),
-    ("$set", 1, 90, 1, false),
-    ("$set", 90, 0, 1, true),
-    ("$set", 91, 0, 1, false),
-    ("$set", 45, 45, 1, true),
-    ("$set", 45, 46, 1, false),
-    ("$set", 1, 91, 1, false),
-    ("$push", 1, 88, 1, true),
-    ("$push", 1, 89, 1, false),
-    ("$push", 89, 0, 1, true),
-    ("$push", 90, 0, 1, false),
-    ("$addToSet", 1, 88, 1, true),
-    ("$addToSet", 1, 89, 1, false),
-    ("$unset", 100, 90, 1, true),
-    ("$unset", 1, 91, 1, true),
-    ("$pull", 100, 0, 1, true),
-    ("$inc", 90, 0, 1, true),
-    ("$inc", 91, 0, 1, false),
-    ("$set", 1, 89, 89, true),
-    ("$set", 1, 1, 90, false),
-    ("$unset", 1, 1, 89, true),
-    ("$unset", 1, 1, 90, false),
+static LEVELS: [(&str, [usize; 3], bool); 22] = [
+    ("$set", [1, 89, 1], true),
+    ("$set", [1, 90, 1], false),
+    ("$set", [90, 0, 1], true),
+    ("$set", [91, 0, 1], false),
+    ("$set", [45, 45, 1], true),
+    ("$set", [45, 46, 1], false),
+    ("$set", [1, 91, 1], false),
+    ("$push", [1, 88, 1], true),
+    ("$push", [1, 89, 1], false),
+    ("$push", [89, 0, 1], true),
+    ("$push", [90, 0, 1], false),
+    ("$addToSet", [1, 88, 1], true),
+    ("$addToSet", [1, 89, 1], false),
+    ("$unset", [100, 90, 1], true),
+    ("$unset", [1, 91, 1], true),
+    ("$pull", [100, 0, 1], true),
+    ("$inc", [90, 0, 1], true),
+    ("$inc", [91, 0, 1], false),
+    ("$set", [1, 89, 89], true),
+    ("$set", [1, 1, 90], false),
+    ("$unset", [1, 1, 89], true),
+    ("$unset", [1, 1, 90], false),
 ];
 
 fn push_times(out: &mut Vec<u8>, times: usize, piece: &str) -> Result<(), OutOfMemory> {
@@ -195,38 +195,48 @@ fn updates_are_read(rt: HostRuntime) -> Result<(), Fail> {
     Ok(())
 }
 
-/// The value after the update, where it fits; both calls must agree.
-fn updated(alloc: Global, update: &[u8], value: &[u8]) -> Result<Option<Value>, Fail> {
+fn read_update(alloc: Global, text: &[u8]) -> Result<Update, Fail> {
+    let value = read_value(alloc, text)?;
+    Ok(Update::read(alloc, &value).ok().ok_or("no update")?)
+}
+
+/// The value after the update, and whether that fits it.
+fn updated(alloc: Global, update: &[u8], value: &[u8]) -> Result<(Option<Value>, bool), Fail> {
+    let update = read_update(alloc, update)?;
     let value = read_value(alloc, value)?;
-    let update = read_value(alloc, update)?;
-    let update = Update::read(alloc, &update).ok().ok_or("no update")?;
-    let after = apply(alloc, &update, &value)?;
-    if after.is_some() != fits(&update, &value) {
-        return Err("fits and apply differ".into());
-    }
-    Ok(after)
+    Ok((apply(alloc, &update, &value)?, fits(&update, &value)))
 }
 
 fn becomes(alloc: Global, update: &str, value: &str, expected: &str) -> Result<bool, Fail> {
     match updated(alloc, update.as_bytes(), value.as_bytes())? {
-        Some(after) => Ok(print_value(alloc, &after)?.as_slice() == expected.as_bytes()),
-        None => Ok(expected == "unfit"),
+        (Some(after), true) => Ok(print_value(alloc, &after)?.as_slice() == expected.as_bytes()),
+        (None, false) => Ok(expected == "unfit"),
+        _ => Ok(false),
     }
+}
+
+fn fits_as_told(
+    alloc: Global,
+    operator: &str,
+    [parts, levels, beside]: [usize; 3],
+    fit: bool,
+) -> Result<bool, Fail> {
+    let update = deep_update(alloc, operator, parts, levels)?;
+    let body = deep_body(alloc, beside)?;
+    let (after, told) = updated(alloc, update.as_slice(), body.as_slice())?;
+    Ok(after.is_some() == fit && told == fit)
 }
 
 #[test]
 fn updates_are_applied(rt: HostRuntime) -> Result<(), Fail> {
     for (update, value, expected) in &SCALARS {
-        assert!(rt;
-            becomes(rt.alloc(), update, value, expected)?,
-            "{update} {value}"
-        );
+        assert!(rt; becomes(rt.alloc(), update, value, expected)?, "{update}");
     }
-    for (operator, parts, levels, beside, fit) in &LEVELS {
-        let update = deep_update(rt.alloc(), operator, *parts, *levels)?;
-        let body = deep_body(rt.alloc(), *beside)?;
-        let after = updated(rt.alloc(), update.as_slice(), body.as_slice())?;
-        assert!(rt; after.is_some() == *fit, "{operator} {parts} {levels}");
+    for (operator, levels, fit) in &LEVELS {
+        assert!(rt;
+            fits_as_told(rt.alloc(), operator, *levels, *fit)?,
+            "{operator}"
+        );
     }
     Ok(())
 }

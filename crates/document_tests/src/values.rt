@@ -1,7 +1,6 @@
 //! Values, their text, bodies and equality.
 use doc_value::{
-    BodyFault, DocId, OutOfMemory, Text, Value, ValueFault, print_value, push_text, push_value,
-    read_body, read_value,
+    BodyFault, DocId, OutOfMemory, Text, Value, ValueFault, print_value, read_body, read_value,
 };
 use std::alloc::Global;
 use std::test::Fail;
@@ -154,20 +153,20 @@ fn is_printed_as(alloc: Global, value: &Value, expected: &[u8]) -> Result<bool, 
     Ok(copy.equals(value) && shown.as_slice() == expected)
 }
 
-#[test]
-fn values_are_read_and_printed(rt: HostRuntime) -> Result<(), Fail> {
-    for (text, expected) in &VALUES {
-        assert!(rt; is_read_as(rt.alloc(), text, expected)?);
-    }
-    Ok(())
+fn are_equal(alloc: Global, first: &[u8], second: &[u8]) -> Result<bool, Fail> {
+    let first = read_value(alloc, first)?;
+    let second = read_value(alloc, second)?;
+    Ok(first.equals(&second))
 }
 
 #[test]
-fn texts_and_values_are_pushed(rt: HostRuntime) -> Result<(), Fail> {
-    let mut out = Vec::from_slice(rt.alloc(), b"id:")?;
-    push_text(&mut out, "a\"b")?;
-    push_value(&mut out, &Value::Int(-7))?;
-    assert!(rt; out.as_slice() == b"id:\"a\\\"b\"-7".as_slice());
+fn values_are_read_printed_and_compared(rt: HostRuntime) -> Result<(), Fail> {
+    for (text, expected) in &VALUES {
+        assert!(rt; is_read_as(rt.alloc(), text, expected)?);
+    }
+    for (first, second, same) in &PAIRS {
+        assert!(rt; are_equal(rt.alloc(), first, second)? == *same);
+    }
     Ok(())
 }
 
@@ -245,20 +244,6 @@ fn bodies_are_read(rt: HostRuntime) -> Result<(), Fail> {
     }
     for (text, expected) in &NUMBERED {
         assert!(rt; is_body(rt.alloc(), text, &DocId::Int(7), expected)?);
-    }
-    Ok(())
-}
-
-fn are_equal(alloc: Global, first: &[u8], second: &[u8]) -> Result<bool, Fail> {
-    let first = read_value(alloc, first)?;
-    let second = read_value(alloc, second)?;
-    Ok(first.equals(&second))
-}
-
-#[test]
-fn values_are_compared(rt: HostRuntime) -> Result<(), Fail> {
-    for (first, second, same) in &PAIRS {
-        assert!(rt; are_equal(rt.alloc(), first, second)? == *same);
     }
     Ok(())
 }
