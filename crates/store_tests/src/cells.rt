@@ -56,46 +56,57 @@ fn put(changed: Changed) -> Option<Cell> {
     }
 }
 
-/// The counter after a nonce was drawn, copied as an answer and as a cell under its name.
-fn counter_after(alloc: Global) -> Result<Option<u32>, OutOfMemory> {
-    let changed = change(alloc, &Name::Nonce, &Edit::DrawNonce.copy(alloc)?, None)?;
+/// What is answered of the first nonce that is drawn.
+fn first_drawn(alloc: Global) -> Result<Edited, OutOfMemory> {
+    let changed = change(alloc, &Name::Nonce, &Edit::DrawNonce, None)?;
     let done = Edited {
         hit: true,
         cell: put(changed),
     };
-    Ok(counter_in(done.copy(alloc)?.cell))
+    done.copy(alloc)
 }
 
-fn owner_at(alloc: Global, revno: i64, stashed: i64) -> Result<Side, OutOfMemory> {
-    let doc = DocCell {
+fn doc_cell(alloc: Global, revno: i64) -> DocCell {
+    DocCell {
         body: Value::Object(Fields::new(alloc)),
         revno,
         queue: Items::new(alloc),
         remove: None,
-    };
-    let stash = StashCell {
-        revno: stashed,
+    }
+}
+
+fn stash_cell(alloc: Global, revno: i64) -> StashCell {
+    StashCell {
+        revno,
         queue: Items::new(alloc),
         insert: None,
-    };
-    let side = owner(Some(&doc), Some(&stash));
-    let named = Named {
-        name: Name::Nonce,
-        cell: Cell::Doc(doc),
-    };
-    let _copies = (named.copy(alloc)?, Cell::Stash(stash).copy(alloc)?);
-    Ok(side)
+    }
+}
+
+fn owner_at(alloc: Global, revno: i64, stashed: i64) -> Side {
+    let doc = doc_cell(alloc, revno);
+    let stash = stash_cell(alloc, stashed);
+    owner(Some(&doc), Some(&stash))
+}
+
+fn copied(alloc: Global, cell: Cell) -> Result<Named, OutOfMemory> {
+    let name = Name::Nonce;
+    Named { name, cell }.copy(alloc)
 }
 
 #[test]
 fn nonces_end_and_the_greater_epoch_owns(rt: HostRuntime) -> Result<(), Fail> {
-    let alloc = rt.alloc();
-    assert!(rt; draws(4_294_967_294));
-    assert!(rt; !draws(4_294_967_295));
-    assert!(rt; counter_after(alloc)? == Some(1));
-    assert!(rt; owner_at(alloc, 0, -1)? == Side::Stash);
-    assert!(rt; owner_at(alloc, 1, -1)? == Side::Document);
-    assert!(rt; owner_at(alloc, 2, -3)? == Side::Stash);
+    assert!(rt; draws(4_294_967_294) && !draws(4_294_967_295));
+    assert!(rt; counter_in(first_drawn(rt.alloc())?.cell) == Some(1));
+    for (revno, stashed, side) in [
+        (0, -1, Side::Stash),
+        (1, -1, Side::Document),
+        (2, -3, Side::Stash),
+    ] {
+        assert!(rt; owner_at(rt.alloc(), revno, stashed) == side, "{revno}");
+    }
     assert!(rt; owner(None, None) == Side::Neither);
+    let _doc = copied(rt.alloc(), Cell::Doc(doc_cell(rt.alloc(), 1)))?;
+    let _stash = copied(rt.alloc(), Cell::Stash(stash_cell(rt.alloc(), -1)))?;
     Ok(())
 }

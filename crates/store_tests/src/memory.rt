@@ -34,12 +34,6 @@ fn hit(
     Ok(done.hit)
 }
 
-/// Whether a document is placed where there was none.
-fn place(alloc: Global, store: &mut MemoryStore, id: i64) -> Result<bool, StoreError> {
-    let name = doc_name(alloc, id)?;
-    hit(alloc, store, &name, &empty_doc(alloc))
-}
-
 fn is_named(found: Option<Named>, name: &Name) -> bool {
     match found {
         Some(it) => it.name.compare(name) == Ordering::Equal,
@@ -47,32 +41,46 @@ fn is_named(found: Option<Named>, name: &Name) -> bool {
     }
 }
 
-/// Whether the next name past that of a document is that of another.
-fn is_next(alloc: Global, store: &mut MemoryStore, id: i64, next: i64) -> Result<bool, StoreError> {
-    let name = doc_name(alloc, id)?;
-    let found = store.next(alloc, Some(&name))?;
-    Ok(is_named(found, &doc_name(alloc, next)?))
+/// Whether a document is placed where there was none.
+fn place(alloc: Global, store: &mut MemoryStore, name: &Name) -> Result<bool, StoreError> {
+    hit(alloc, store, name, &empty_doc(alloc))
 }
 
-/// Whether documents are placed once each, and listed in their order, by six calls.
-fn are_listed(alloc: Global, store: &mut MemoryStore) -> Result<bool, StoreError> {
-    let placed = [
-        place(alloc, store, 3)?,
-        place(alloc, store, 1)?,
-        place(alloc, store, 3)?,
-    ];
-    let next = [
-        is_next(alloc, store, 0, 1)?,
-        is_next(alloc, store, 1, 3)?,
-        is_next(alloc, store, 3, 3)?,
-    ];
-    Ok(placed == [true, true, false] && next == [true, true, false] && store.calls() == 6)
+/// Whether the next name past that of a document is that of another.
+fn is_next(
+    alloc: Global,
+    store: &mut MemoryStore,
+    name: &Name,
+    next: &Name,
+) -> Result<bool, StoreError> {
+    Ok(is_named(store.next(alloc, Some(name))?, next))
+}
+
+/// Whether documents of rising names, the first of which isn't placed, are placed once each and listed in
+/// their order, by six calls.
+fn are_listed(
+    alloc: Global,
+    store: &mut MemoryStore,
+    [none, first, last]: [&Name; 3],
+) -> Result<bool, StoreError> {
+    Ok(
+        place(alloc, store, last)?
+            && place(alloc, store, first)?
+            && !place(alloc, store, last)?
+            && is_next(alloc, store, none, first)?
+            && is_next(alloc, store, first, last)?
+            && !is_next(alloc, store, last, last)?
+            && store.calls() == 6,
+    )
 }
 
 #[test]
 fn lists_what_was_placed_in_order(rt: HostRuntime) -> Result<(), Fail> {
+    let none = doc_name(rt.alloc(), 0)?;
+    let first = doc_name(rt.alloc(), 1)?;
+    let last = doc_name(rt.alloc(), 3)?;
     let mut store = MemoryStore::new(rt.alloc(), Vec::new(rt.alloc()))?;
-    assert!(rt; are_listed(rt.alloc(), &mut store) == Ok(true));
+    assert!(rt; are_listed(rt.alloc(), &mut store, [&none, &first, &last]) == Ok(true));
     Ok(())
 }
 
