@@ -19,7 +19,8 @@ pub record AreLinks (graph : Graph) (links : Links) : Type 0 where
 
 -- a gives way to v, where the marked vertices are those before and after v
 abbrev pub GivesWay : Graph → List Bool → List Bool → ℕ → ℕ → Type 0
-GivesWay graph before after v a = Marked before a → a ≢ v → IsUnsettled graph a → Marked after a × IsBelow graph v a
+GivesWay graph before after v a =
+    Marked before a → a ≢ v → IsUnsettled graph a → Marked after a × IsBelow graph v a
 
 abbrev pub AllGiveWay : Graph → List Bool → List Bool → ℕ → Type 0
 AllGiveWay graph before after v = (a : ℕ) → GivesWay graph before after v a
@@ -33,7 +34,8 @@ pub record ComesFirst (graph : Graph) (first : Option ℕ) (v : ℕ) : Type 0 wh
 -- v where it comes first, and else the first one so far
 abbrev pub IsFirstOf : Graph → Option ℕ → ℕ → Option ℕ → Type 0
 IsFirstOf graph first v chosen =
-    (ComesFirst graph first v × (chosen ≡ Some v)) ⊎ ((ComesFirst graph first v → ⊥) × (chosen ≡ first))
+    (ComesFirst graph first v × (chosen ≡ Some v))
+    ⊎ ((ComesFirst graph first v → ⊥) × (chosen ≡ first))
 
 -- w has the least id of the unsettled ancestors of v
 pub record IsLeastAhead (graph : Graph) (v w : ℕ) : Type 0 where
@@ -54,7 +56,8 @@ pub record IsLeast (graph : Graph) (passed : List Bool) (v : ℕ) : Type 0 where
   pub vertex : v < length graph.ids
   pub unsettled : IsUnsettled graph v
   pub ready : IsReady graph v
-  pub least : (w : ℕ) → Marked passed w → IsUnsettled graph w → IsReady graph w → w ≢ v → IsBelow graph v w
+  pub least : (w : ℕ) → Marked passed w → IsUnsettled graph w → IsReady graph w →
+      w ≢ v → IsBelow graph v w
 
 -- the first one of those passed, or that no unsettled one of them is ready
 abbrev pub IsFirst : Graph → List Bool → Option ℕ → Type 0

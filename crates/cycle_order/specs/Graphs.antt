@@ -12,7 +12,8 @@ use Rattle.cycle_order.specs.declared.graph.Graph.{Graph}
 pub record IsGraph (graph : Graph) : Type 0 where
   pub distinct : AllPairs (λ s t. s ≢ t) graph.ids
   pub flags : length graph.settled ≡ length graph.ids
-  pub edges : All (λ edge. (edge.before < length graph.ids) × (edge.after < length graph.ids)) graph.edges
+  pub edges : All (λ edge.
+      (edge.before < length graph.ids) × (edge.after < length graph.ids)) graph.edges
 
 abbrev pub edge_of : ℕ → ℕ → Edge
 edge_of u t = record { before = u; after = t }
@@ -60,7 +61,8 @@ pub record IsPicked (graph : Graph) (v : ℕ) : Type 0 where
 
 -- the graph after one more vertex comes, after one is settled, and after more edges
 abbrev pub with_vertex : Graph → TxnId → Bool → Graph
-with_vertex graph id settled = record graph { ids = graph.ids ++ id ∷ []; settled = graph.settled ++ settled ∷ [] }
+with_vertex graph id settled =
+    record graph { ids = graph.ids ++ id ∷ []; settled = graph.settled ++ settled ∷ [] }
 
 abbrev pub with_settled : Graph → ℕ → Graph
 with_settled graph v = record graph { settled = slice_set graph.settled v true }

@@ -4,7 +4,8 @@ use Rattle.std.specs.Prelude.{◌≢◌}
 use Rattle.txn_record.specs.Walks.{Leads}
 
 -- every other unsettled vertex from which a walk leads to v is led to by v, and comes below it
-pub record GoesFirst {A : Type 0} (E : A → A → Type 0) (Unsettled : A → Type 0) (Below : A → A → Type 0) (v : A) : Type 0 where
+pub record GoesFirst {A : Type 0} (E : A → A → Type 0) (Unsettled : A → Type 0)
+    (Below : A → A → Type 0) (v : A) : Type 0 where
   pub back : (a : A) → Leads E a v → a ≢ v → Unsettled a → Leads E v a
   pub least : (a : A) → Leads E a v → a ≢ v → Unsettled a → Below v a
 

@@ -22,7 +22,8 @@ last_into edges t (suc n) = if end_at edges n == t then Some n else last_into ed
 
 -- Of the first n edges: each knows the last one before it that ends where it ends, and each vertex knows
 -- the last one into it.
-pub record IsLinked (edges : List Edge) (last previous : List (Option ℕ)) (count n : ℕ) : Type 0 where
+pub record IsLinked (edges : List Edge) (last previous : List (Option ℕ)) (count n : ℕ)
+    : Type 0 where
   pub vertices : length last ≡ count
   pub places : length previous ≡ n
   pub ends : (t : ℕ) → t < count → slice_index_or last t None ≡ last_into edges t n
@@ -30,7 +31,8 @@ pub record IsLinked (edges : List Edge) (last previous : List (Option ℕ)) (cou
 
 -- Edges between the first so many vertices, with their links.
 pub record IsIncoming (into : Incoming) (count : ℕ) : Type 0 where
-  pub linked : IsLinked into.edges.items into.last.items into.previous.items count (length into.edges.items)
+  pub linked : IsLinked into.edges.items into.last.items into.previous.items count
+      (length into.edges.items)
   pub inside : All (λ edge. (edge.before < count) × (edge.after < count)) into.edges.items
 
 -- how many aren't marked
@@ -41,7 +43,8 @@ unmarked (false ∷ flags) = suc (unmarked flags)
 
 -- A search goes on: what it found stays found, and what it finds anew is of P and waits in the frontier,
 -- from which it takes nothing.
-pub record Finds (P : ℕ → Type 0) (found : List Bool) (frontier : List ℕ) (found' : List Bool) (frontier' : List ℕ) : Type 0 where
+pub record Finds (P : ℕ → Type 0) (found : List Bool) (frontier : List ℕ)
+    (found' : List Bool) (frontier' : List ℕ) : Type 0 where
   pub size : length found' ≡ length found
   pub keeps : (a : ℕ) → Marked found a → Marked found' a
   pub only : (a : ℕ) → Marked found' a → Marked found a ⊎ P a

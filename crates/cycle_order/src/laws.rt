@@ -15,7 +15,8 @@ pub fn graphs_grow()
         (Contains graph.ids id → ⊥) → IsGraph (with_vertex graph id settled) }
     ensures settled { (graph : Graph) (v : ℕ) → IsGraph graph → IsGraph (with_settled graph v) }
     ensures edge { (graph : Graph) (u t : ℕ) → IsGraph graph →
-        u < length graph.ids → t < length graph.ids → IsGraph (with_edges graph (edge_of u t ∷ [])) }
+        u < length graph.ids → t < length graph.ids →
+        IsGraph (with_edges graph (edge_of u t ∷ [])) }
 {}
 
 /// Walks join, stay as edges come, and go through a given vertex or along edges that don't end there.
@@ -25,7 +26,8 @@ pub fn walks_go_on()
     ensures kept { (graph : Graph) (more : List Edge) (a v : ℕ) →
         Ancestor graph a v → Ancestor (with_edges graph more) a v }
     ensures cut { (graph : Graph) (x a v : ℕ) → Ancestor graph a v →
-        (Ancestor graph a x × Ancestor graph x v) ⊎ Leads (λ u t. HasEdge graph.edges u t × (t ≢ x)) a v }
+        (Ancestor graph a x × Ancestor graph x v)
+        ⊎ Leads (λ u t. HasEdge graph.edges u t × (t ≢ x)) a v }
 {}
 
 /// Two unsettled vertices, each an ancestor of the other, are never both ready.

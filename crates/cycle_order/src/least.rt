@@ -51,7 +51,8 @@ fn is_lesser(graph: &Graph, marked: &[bool], a: usize, w: usize) -> bool
     requires marked { length marked.now ≡ length graph.now.ids }
     requires first { a < length graph.now.ids }
     requires second { w < length graph.now.ids }
-    ensures { IsTrue result ↔ (Marked marked.now a × IsUnsettled graph.now a × IsBelow graph.now a w) }
+    ensures { IsTrue result ↔
+        (Marked marked.now a × IsUnsettled graph.now a × IsBelow graph.now a w) }
 {
     marked[a] && !graph.settled.as_slice()[a] && is_below(graph, a, w)
 }

@@ -16,8 +16,6 @@ mod least;
 mod links;
 mod ready;
 mod search;
-#[cfg(test)]
-mod tests;
 
 pub use ancestry::ancestors;
 pub use choice::pick;

@@ -21,7 +21,8 @@ impl Search {
         requires { v < length self.old.found.items }
         ensures here { OnOk result (Marked self.new.found.items v) }
         ensures finds { OnOk result (Finds (λ a. a ≡ v)
-            self.old.found.items self.old.frontier.items self.new.found.items self.new.frontier.items) }
+            self.old.found.items self.old.frontier.items
+            self.new.found.items self.new.frontier.items) }
     {
         if !self.found[v] {
             self.frontier.push(v)?;
@@ -37,7 +38,8 @@ impl Search {
         ensures all { OnOk result ((u : ℕ) →
             HasEdge into.now.edges.items u t → Marked self.new.found.items u) }
         ensures finds { OnOk result (Finds (λ a. HasEdge into.now.edges.items a t)
-            self.old.found.items self.old.frontier.items self.new.found.items self.new.frontier.items) }
+            self.old.found.items self.old.frontier.items
+            self.new.found.items self.new.frontier.items) }
     {
         let mut next = into.last[t];
         while let Some(place) = next {
@@ -78,7 +80,8 @@ pub(crate) fn mark_all(marked: &mut Vec<bool>, more: &[bool])
     ensures size { length marked.new.items ≡ length marked.old.items }
     ensures keeps { (a : ℕ) → Marked marked.old.items a → Marked marked.new.items a }
     ensures adds { (a : ℕ) → Marked more.now a → Marked marked.new.items a }
-    ensures only { (a : ℕ) → Marked marked.new.items a → Marked marked.old.items a ⊎ Marked more.now a }
+    ensures only { (a : ℕ) →
+        Marked marked.new.items a → Marked marked.old.items a ⊎ Marked more.now a }
 {
     for a in 0..more.len() {
         if more[a] {

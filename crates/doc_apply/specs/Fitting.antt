@@ -22,20 +22,24 @@ fits_in effect (Some found) = is_some (effect found)
 fits_in effect None = is_nothing (effect None)
 
 abbrev pub change_fits : Value → Change → Bool
-change_fits body change = fits_in (effect change.operator change.operand) (located change.path (Some body))
+change_fits body change =
+    fits_in (effect change.operator change.operand) (located change.path (Some body))
 
 -- what stands at that depth reaches below the limit
 abbrev pub reaches_below : ℕ → ℕ → Option (Option Value) → Bool
 reaches_below limit depth (Some (Some value)) = nat_lt limit (depth + nesting value)
 reaches_below limit depth _ = false
 
-abbrev pub puts_below : (Option Value → Option (Option Value)) → ℕ → ℕ → Option (Option Value) → Bool
+abbrev pub puts_below : (Option Value → Option (Option Value)) → ℕ → ℕ →
+    Option (Option Value) → Bool
 puts_below effect limit depth (Some found) = reaches_below limit depth (effect found)
 puts_below effect limit depth None = false
 
 -- what a change puts at its path would nest deeper than the limit
 abbrev pub change_is_deep : ℕ → Value → Change → Bool
-change_is_deep limit body change = puts_below (effect change.operator change.operand) limit (length change.path) (located change.path (Some body))
+change_is_deep limit body change =
+    puts_below (effect change.operator change.operand) limit (length change.path)
+    (located change.path (Some body))
 
 -- a change fits the body alone, and puts nothing too deep
 abbrev pub change_is_good : Value → Change → Bool

@@ -8,7 +8,12 @@ use Rattle.doc_update.specs.declared.change.Change.{Change as Listed}
 
 -- the change with what is left of its path at that depth
 abbrev pub change_below : ℕ → Listed → Change
-change_below depth listed = record { operator = listed.operator; name = listed.field.now.name; path = drop depth listed.parts; operand = listed.field.now.value }
+change_below depth listed = record {
+  operator = listed.operator;
+  name = listed.field.now.name;
+  path = drop depth listed.parts;
+  operand = listed.field.now.value;
+}
 
 abbrev pub first_part : List (List ℕ) → Option (List ℕ)
 first_part [] = None
@@ -29,7 +34,8 @@ has_head name change = begins_with name change.path
 -- how many changes at the front have paths that begin with that part
 abbrev pub count_head : List ℕ → List Change → ℕ
 count_head name [] = 0
-count_head name (change ∷ changes) = if has_head name change then suc (count_head name changes) else 0
+count_head name (change ∷ changes) =
+    if has_head name change then suc (count_head name changes) else 0
 
 abbrev pub parts_in_order : Option (List ℕ) → Option (List ℕ) → Bool
 parts_in_order (Some part) (Some other) = not (is_gt (slice_cmp nat_cmp part other))

@@ -17,7 +17,8 @@ pub(crate) fn effect(
     operand: &Value,
     found: Option<&Value>,
 ) -> Result<Option<Option<Value>>, OutOfMemory>
-    ensures { IfOk result (λ after. after ≡ effect operator operand.now (option_copied found.entry)) }
+    ensures { IfOk result (λ after. after ≡
+        effect operator operand.now (option_copied found.entry)) }
 {
     match found {
         Some(found) => effect_on(alloc, operator, operand, found),

@@ -125,7 +125,8 @@ fn fits_found(operator: Operator, operand: &Value, found: Option<&Value>, depth:
 
 /// Whether the field is missing after the operator.
 fn leaves_nothing(operator: Operator, found: Option<&Value>) -> bool
-    ensures { (operand : Tree) → result ≡ is_nothing (effect operator operand (option_copied found.entry)) }
+    ensures { (operand : Tree) →
+        result ≡ is_nothing (effect operator operand (option_copied found.entry)) }
 {
     match operator {
         Operator::Set => false,

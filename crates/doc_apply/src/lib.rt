@@ -14,6 +14,3 @@ mod together;
 
 pub use applying::apply;
 pub use fitting::fits;
-
-#[cfg(test)]
-mod tests;

@@ -20,7 +20,9 @@ pub(crate) fn changed(
     parts: &[Text],
     found: Option<&Value>,
 ) -> Result<Option<Option<Value>>, OutOfMemory>
-    ensures { IfOk result (λ after. after ≡ changed (effect change.now.operator change.now.field.now.value) parts.now (option_copied found.entry)) }
+    ensures { IfOk result (λ after. after ≡
+        changed (effect change.now.operator change.now.field.now.value) parts.now
+        (option_copied found.entry)) }
 {
     let Some((part, rest)) = parts.split_first() else {
         return effect(alloc, change.operator, &change.field.value, found);
@@ -65,7 +67,8 @@ fn placed_in(
     after: Option<Value>,
     value: &Value,
 ) -> Result<Option<Option<Value>>, OutOfMemory>
-    ensures { IfOk result (λ made. made ≡ placed_in part.now after value.now (out-Value value.now)) }
+    ensures { IfOk result (λ made. made ≡
+        placed_in part.now after value.now (out-Value value.now)) }
 {
     match (value, after) {
         (Value::Object(fields), after) => {

@@ -28,7 +28,8 @@ pub(crate) fn after_all(
 ) -> Result<Option<Option<Value>>, OutOfMemory>
     requires apart { are_apart (map (change_below depth) changes.now) ≡ true }
     requires names { ordered ≡ true → is_found_ordered (option_copied found) ≡ true }
-    ensures { IfOk result (λ after. after ≡ after_changes (map (change_below depth) changes.now) (option_copied found.entry)) }
+    ensures { IfOk result (λ after. after ≡
+        after_changes (map (change_below depth) changes.now) (option_copied found.entry)) }
 {
     if let [change] = changes {
         return changed(alloc, change, parts_below(change, depth), found);
@@ -64,7 +65,8 @@ fn after_each(
     depth: usize,
     found: Option<&Value>,
 ) -> Result<Option<Option<Value>>, OutOfMemory>
-    ensures { IfOk result (λ after. after ≡ after_changes (map (change_below depth) changes.now) (option_copied found.entry)) }
+    ensures { IfOk result (λ after. after ≡
+        after_changes (map (change_below depth) changes.now) (option_copied found.entry)) }
 {
     let mut made = copy_found(alloc, found)?;
     for change in changes {
@@ -161,7 +163,8 @@ fn heads_rise(changes: &[Change], depth: usize) -> bool
 }
 
 fn precedes_head(head: Option<&Text>, rest: &[Change], depth: usize) -> bool
-    ensures { result ≡ precedes_head (option_copied head.entry) (map (change_below depth) rest.now) }
+    ensures { result ≡
+        precedes_head (option_copied head.entry) (map (change_below depth) rest.now) }
 {
     let Some(part) = head else {
         return false;

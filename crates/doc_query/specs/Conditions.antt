@@ -31,7 +31,8 @@ is_null _ = false
 
 abbrev pub equals : Value → Option Value → Bool
 equals operand None = is_null (out-Value operand)
-equals operand (Some field) = same field operand || list_any (λ element. same element operand) (elements field)
+equals operand (Some field) =
+    same field operand || list_any (λ element. same element operand) (elements field)
 
 abbrev pub equals_some : Value → Option Value → Bool
 equals_some operand field = list_any (λ member. equals member field) (elements operand)
@@ -68,12 +69,14 @@ allows LessOrEqual ordering = not (is_gt ordering)
 
 -- the value compares so to the operand
 abbrev pub compares : Comparison → Value → Value → Bool
-compares comparison operand value = option_map_or (allows comparison) (order_of (out-Value value) (out-Value operand)) false
+compares comparison operand value =
+    option_map_or (allows comparison) (order_of (out-Value value) (out-Value operand)) false
 
 -- the field, or an element of it, compares so
 abbrev pub compares_some : Comparison → Value → Option Value → Bool
 compares_some comparison operand None = false
-compares_some comparison operand (Some field) = compares comparison operand field || list_any (compares comparison operand) (elements field)
+compares_some comparison operand (Some field) =
+    compares comparison operand field || list_any (compares comparison operand) (elements field)
 
 -- ---- operators
 
@@ -97,7 +100,8 @@ passes_named (Some operator) operand inside field = passes operator operand insi
 
 -- each value stands beside the truth of the operators in it
 abbrev pub all_pass : List (Named (Value × Truth)) → Truth
-all_pass operators field = list_all (λ operator. passes_named (operator_named operator.name) operator.value.0 operator.value.1 field) operators
+all_pass operators field = list_all (λ operator.
+    passes_named (operator_named operator.name) operator.value.0 operator.value.1 field) operators
 
 abbrev pub passing_step : Value-F (Value × Truth) → Truth
 passing_step (Value-F.Object operators) field = all_pass operators field
@@ -118,4 +122,6 @@ is_operators (Value-F.Object fields) = are_operators fields
 is_operators _ = false
 
 abbrev pub meets : Value → Truth
-meets condition field = if is_operators (out-Value condition) then passes_all condition field else equals condition field
+meets condition field =
+    if is_operators (out-Value condition) then passes_all condition field
+    else equals condition field

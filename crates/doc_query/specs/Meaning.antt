@@ -33,7 +33,8 @@ name_holds name value inside body =
     else meets value (get_at (parts_of name) body)
 
 abbrev pub names_hold : List (Named (Value × TruthAs)) → Value → Bool
-names_hold fields body = list_all (λ field. name_holds field.name field.value.0 field.value.1 body) fields
+names_hold fields body =
+    list_all (λ field. name_holds field.name field.value.0 field.value.1 body) fields
 
 abbrev pub every_holds : List (Value × TruthAs) → Value → Bool
 every_holds values body = list_all (λ value. value.1 one body) values

@@ -32,7 +32,8 @@ FaultAt = Place → Option QueryFault
 -- ---- under a path: each value beside its own first fault
 
 abbrev pub operand_fault : List ℕ → Operator → Value → Option QueryFault
-operand_fault name operator operand = if is_operand operator (out-Value operand) then None else Some (BadOperand name)
+operand_fault name operator operand =
+    if is_operand operator (out-Value operand) then None else Some (BadOperand name)
 
 abbrev pub operator_fault : List ℕ → Option Operator → Value → FaultAt → Option QueryFault
 operator_fault name None operand inside = Some (UnknownOperator name)
@@ -41,7 +42,9 @@ operator_fault name (Some operator) operand inside = operand_fault name operator
 
 abbrev pub operators_fault : List (Named (Value × FaultAt)) → Option QueryFault
 operators_fault [] = None
-operators_fault (field ∷ fields) = option_or (operator_fault field.name (operator_named field.name) field.value.0 field.value.1) (operators_fault fields)
+operators_fault (field ∷ fields) =
+    option_or (operator_fault field.name (operator_named field.name) field.value.0 field.value.1)
+    (operators_fault fields)
 
 abbrev pub condition_fault : List ℕ → List (Named (Value × FaultAt)) → Option QueryFault
 condition_fault path fields =
@@ -49,7 +52,8 @@ condition_fault path fields =
     else (if list_any is_operator_field fields then Some (Mixed path) else None)
 
 abbrev pub negated_fault : List ℕ → List (Named (Value × FaultAt)) → Option QueryFault
-negated_fault name fields = if are_operators fields then operators_fault fields else Some (BadOperand name)
+negated_fault name fields =
+    if are_operators fields then operators_fault fields else Some (BadOperand name)
 
 -- ---- a query: its names are paths, and operators that join queries
 
@@ -58,10 +62,13 @@ logic_fault name None inside = Some (UnknownOperator name)
 logic_fault name (Some logic) inside = inside (as_queries name)
 
 abbrev pub path_fault : List ℕ → FaultAt → Option QueryFault
-path_fault path inside = if is_ok (path_in path) then inside (as_condition path) else Some (BadPath path)
+path_fault path inside =
+    if is_ok (path_in path) then inside (as_condition path) else Some (BadPath path)
 
 abbrev pub name_fault : List ℕ → FaultAt → Option QueryFault
-name_fault name inside = if is_operator_name name then logic_fault name (logic_named name) inside else path_fault name inside
+name_fault name inside =
+    if is_operator_name name then logic_fault name (logic_named name) inside
+    else path_fault name inside
 
 abbrev pub names_fault : List (Named (Value × FaultAt)) → Option QueryFault
 names_fault [] = None
@@ -69,7 +76,8 @@ names_fault (field ∷ fields) = option_or (name_fault field.name field.value.1)
 
 abbrev pub members_fault : List ℕ → List (Value × FaultAt) → Option QueryFault
 members_fault name [] = None
-members_fault name (value ∷ values) = option_or (value.1 (as_member name)) (members_fault name values)
+members_fault name (value ∷ values) =
+    option_or (value.1 (as_member name)) (members_fault name values)
 
 abbrev pub queries_fault : List ℕ → List (Value × FaultAt) → Option QueryFault
 queries_fault name [] = Some (EmptyList name)

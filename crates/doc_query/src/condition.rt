@@ -45,7 +45,8 @@ fn all_operators_pass(operators: &Value, field: Option<&Value>) -> bool
 
 #[cycle(passing)]
 fn each_passes(operators: &[Field], field: Option<&Value>) -> bool
-    ensures { result ≡ all_pass (map (judged beside_truth) operators.now) (option_copied field.entry) }
+    ensures { result ≡
+        all_pass (map (judged beside_truth) operators.now) (option_copied field.entry) }
 {
     for operator in operators {
         if !named_passes(operator.name.as_bytes(), &operator.value, field) {

@@ -17,6 +17,3 @@ pub use fault::QueryFault;
 pub use laws::truth_by_cases;
 pub use matching::matches;
 pub use query::Query;
-
-#[cfg(test)]
-mod tests;

@@ -23,7 +23,12 @@ abbrev pub fields_of : Value → List (Named Value)
 fields_of value = fields_within (out-Value value)
 
 abbrev pub change_of : Operator → Named Value → Change
-change_of operator field = record { operator = operator; name = field.name; path = parts_of field.name; operand = field.value }
+change_of operator field = record {
+  operator = operator;
+  name = field.name;
+  path = parts_of field.name;
+  operand = field.value;
+}
 
 abbrev pub changes_under : Option Operator → List (Named Value) → List Change
 changes_under (Some operator) fields = map (change_of operator) fields
@@ -31,7 +36,8 @@ changes_under None fields = []
 
 abbrev pub changes_in : List (Named Value) → List Change
 changes_in [] = []
-changes_in (operator ∷ operators) = changes_under (operator_named operator.name) (fields_of operator.value) ++ changes_in operators
+changes_in (operator ∷ operators) =
+    changes_under (operator_named operator.name) (fields_of operator.value) ++ changes_in operators
 
 -- the changes of an update, in byte order of operators and of the paths under each
 abbrev pub changes_of : Value → List Change

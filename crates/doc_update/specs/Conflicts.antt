@@ -17,7 +17,8 @@ conflict change other = paths_conflict change.path other.path
 abbrev pub first_conflict_after : List Change → List Change → Option (List ℕ)
 first_conflict_after before [] = None
 first_conflict_after before (change ∷ changes) =
-    if list_any (conflict change) before then Some change.name else first_conflict_after (before ++ change ∷ []) changes
+    if list_any (conflict change) before then Some change.name
+    else first_conflict_after (before ++ change ∷ []) changes
 
 abbrev pub first_conflict : List Change → Option (List ℕ)
 first_conflict = first_conflict_after []

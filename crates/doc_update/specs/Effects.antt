@@ -17,7 +17,8 @@ stands value = Some (Some value)
 
 -- the sum, where both are numbers and it fits 64 bits
 abbrev pub increased : Value-F Value → Value-F Value → Option (Option Value)
-increased (Value-F.Int number) (Value-F.Int more) = if fits_64_bits (number +ℤ more) then stands (Int (number +ℤ more)) else None
+increased (Value-F.Int number) (Value-F.Int more) =
+    if fits_64_bits (number +ℤ more) then stands (Int (number +ℤ more)) else None
 increased _ _ = None
 
 abbrev pub is_among : Value → List Value → Bool
@@ -33,14 +34,17 @@ is_one _ = false
 
 -- the items without the last for 1, without the first for -1
 abbrev pub popped : Value → List Value → List Value
-popped operand items = if is_one (out-Value operand) then take (length items - 1) items else drop 1 items
+popped operand items =
+    if is_one (out-Value operand) then take (length items - 1) items else drop 1 items
 
 abbrev pub pushed_onto : Value → Value-F Value → Option (Option Value)
 pushed_onto operand (Value-F.List items) = stands (Items_of (items ++ operand ∷ []))
 pushed_onto operand _ = None
 
 abbrev pub added_to : Value → Value-F Value → Option (Option Value)
-added_to operand (Value-F.List items) = if is_among operand items then stands (Items_of items) else stands (Items_of (items ++ operand ∷ []))
+added_to operand (Value-F.List items) =
+    if is_among operand items then stands (Items_of items)
+    else stands (Items_of (items ++ operand ∷ []))
 added_to operand _ = None
 
 abbrev pub pulled_from : Value → Value-F Value → Option (Option Value)

@@ -20,7 +20,8 @@ field_or_none name None = []
 
 -- the fields, in byte order of their names, with this one as it is afterwards in its place
 abbrev pub with_field : List ℕ → Option Value → List (Named Value) → List (Named Value)
-with_field name after fields = filter (is_below name) fields ++ field_or_none name after ++ filter (is_above name) fields
+with_field name after fields =
+    filter (is_below name) fields ++ field_or_none name after ++ filter (is_above name) fields
 
 -- the field of that name, of an object that is there
 abbrev pub part_of : List ℕ → Option Value → Option Value
@@ -34,7 +35,8 @@ is_open (Some value) = is_object value
 
 -- What has no fields takes none; nothing changes there where the field is missing afterwards.
 abbrev pub placed_in : List ℕ → Option Value → Value → Value-F Value → Option (Option Value)
-placed_in part after value (Value-F.Object fields) = Some (Some (Object (with_field part after fields)))
+placed_in part after value (Value-F.Object fields) =
+    Some (Some (Object (with_field part after fields)))
 placed_in part None value _ = Some (Some value)
 placed_in part (Some after) value _ = None
 
@@ -45,6 +47,8 @@ placed part None (Some after) = Some (Some (Object (record { name = part; value 
 placed part None None = Some None
 
 -- what is found afterwards, where an effect is had at the end of the path
-abbrev pub changed : (Option Value → Option (Option Value)) → List (List ℕ) → Option Value → Option (Option Value)
+abbrev pub changed : (Option Value → Option (Option Value)) → List (List ℕ) →
+    Option Value → Option (Option Value)
 changed effect [] found = effect found
-changed effect (part ∷ parts) found = option_and_then (placed part found) (changed effect parts (part_of part found))
+changed effect (part ∷ parts) found =
+    option_and_then (placed part found) (changed effect parts (part_of part found))

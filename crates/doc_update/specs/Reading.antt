@@ -25,7 +25,8 @@ is_object value = is_object_layer (out-Value value)
 -- each is an object under a name that begins with `$`
 abbrev pub are_operators : List (Named Value) → Bool
 are_operators [] = true
-are_operators (operator ∷ operators) = (is_operator_name operator.name && is_object operator.value) && are_operators operators
+are_operators (operator ∷ operators) =
+    (is_operator_name operator.name && is_object operator.value) && are_operators operators
 
 abbrev pub is_empty : List (Named Value) → Bool
 is_empty [] = true
@@ -33,18 +34,21 @@ is_empty _ = false
 
 abbrev pub some_empty : List (Named Value) → Bool
 some_empty [] = false
-some_empty (operator ∷ operators) = if is_empty (fields_of operator.value) then true else some_empty operators
+some_empty (operator ∷ operators) =
+    if is_empty (fields_of operator.value) then true else some_empty operators
 
 -- ---- the first fault of an operator, a path or an operand
 
 abbrev pub fault_of_change : Operator → Named Value → Option UpdateFault
 fault_of_change operator change =
-    if is_ok (path_in change.name) then (if is_operand operator change.value then None else Some (BadOperand change.name))
+    if is_ok (path_in change.name)
+    then (if is_operand operator change.value then None else Some (BadOperand change.name))
     else Some (BadPath change.name)
 
 abbrev pub fault_of_changes : Operator → List (Named Value) → Option UpdateFault
 fault_of_changes operator [] = None
-fault_of_changes operator (change ∷ changes) = option_or (fault_of_change operator change) (fault_of_changes operator changes)
+fault_of_changes operator (change ∷ changes) =
+    option_or (fault_of_change operator change) (fault_of_changes operator changes)
 
 abbrev pub fault_under : List ℕ → Option Operator → List (Named Value) → Option UpdateFault
 fault_under name (Some operator) changes = fault_of_changes operator changes
@@ -53,7 +57,8 @@ fault_under name None changes = Some (UnknownOperator name)
 abbrev pub fault_of_operators : List (Named Value) → Option UpdateFault
 fault_of_operators [] = None
 fault_of_operators (operator ∷ operators) =
-    option_or (fault_under operator.name (operator_named operator.name) (fields_of operator.value)) (fault_of_operators operators)
+    option_or (fault_under operator.name (operator_named operator.name) (fields_of operator.value))
+    (fault_of_operators operators)
 
 -- ---- the conflicts, once all else is right
 
@@ -67,10 +72,12 @@ abbrev pub fault_among : List (Named Value) → Option UpdateFault
 fault_among operators =
     if is_empty operators then Some Empty
     else (if some_empty operators then Some Empty
-    else option_or (fault_of_operators operators) (conflict_fault (first_conflict (changes_in operators))))
+    else option_or (fault_of_operators operators)
+    (conflict_fault (first_conflict (changes_in operators))))
 
 abbrev pub fault_of_shape : List (Named Value) → Option UpdateFault
-fault_of_shape operators = if are_operators operators then fault_among operators else Some NotOperators
+fault_of_shape operators =
+    if are_operators operators then fault_among operators else Some NotOperators
 
 abbrev pub fault_in : Value-F Value → Option UpdateFault
 fault_in (Value-F.Object operators) = fault_of_shape operators

@@ -12,7 +12,8 @@ after_change change found = changed (effect change.operator change.operand) chan
 -- one change after another: nothing where one doesn't fit what those before it made
 abbrev pub after_changes : List Change → Option Value → Option (Option Value)
 after_changes [] found = Some found
-after_changes (change ∷ changes) found = option_and_then (after_changes changes) (after_change change found)
+after_changes (change ∷ changes) found =
+    option_and_then (after_changes changes) (after_change change found)
 
 -- a value that a body may be, of at most 90 levels
 abbrev pub is_too_deep : Value → Bool

@@ -37,7 +37,8 @@ fn push_changes<'a>(
     operator: Operator,
     fields: &'a [Field],
 ) -> Result<(), OutOfMemory>
-    ensures { OnOk result (map change_listed made.new.items ≡ map change_listed made.old.items ++ map (change_of operator) fields.now) }
+    ensures { OnOk result (map change_listed made.new.items ≡
+        map change_listed made.old.items ++ map (change_of operator) fields.now) }
 {
     for field in fields {
         let parts = split_parts(alloc, field.name.as_str())?;

@@ -22,6 +22,3 @@ pub use operator::Operator;
 pub use path_order::sort_by_path;
 pub use shape::{fields_of, is_object};
 pub use update::Update;
-
-#[cfg(test)]
-mod tests;

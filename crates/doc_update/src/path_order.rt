@@ -11,7 +11,8 @@ use std::cmp::Ordering;
 /// Puts the changes in order of their paths.
 pub fn sort_by_path(changes: &mut Vec<Change>) -> Result<(), OutOfMemory>
     ensures moved { IsPermutation changes.old.items changes.new.items }
-    ensures sorted { OnOk result (IsSortedByKey (λ change. change.parts) (slice_cmp (slice_cmp nat_cmp)) changes.new.items) }
+    ensures sorted { OnOk result (IsSortedByKey
+        (λ change. change.parts) (slice_cmp (slice_cmp nat_cmp)) changes.new.items) }
 {
     changes.sort_by(|change, other| compare_paths(
         change.parts.as_slice(),

@@ -31,7 +31,8 @@ pub(crate) fn fault_among(
 }
 
 fn conflict_among(alloc: Global, operators: &[Field]) -> Result<Option<UpdateFault>, OutOfMemory>
-    ensures { IfOk result (λ fault. fault ≡ conflict_fault (first_conflict (changes_in operators.now))) }
+    ensures { IfOk result (λ fault. fault ≡
+        conflict_fault (first_conflict (changes_in operators.now))) }
 {
     match first_conflict(alloc, operators)? {
         Some(path) => Ok(Some(UpdateFault::Conflict(path.copy(alloc)?))),
@@ -55,7 +56,8 @@ fn fault_of_operators(
 }
 
 fn fault_of_operator(alloc: Global, field: &Field) -> Result<Option<UpdateFault>, OutOfMemory>
-    ensures { IfOk result (λ fault. fault ≡ fault_under field.now.name (operator_named field.now.name) (fields_of field.now.value)) }
+    ensures { IfOk result (λ fault. fault ≡
+        fault_under field.now.name (operator_named field.now.name) (fields_of field.now.value)) }
 {
     match Operator::named(field.name.as_bytes()) {
         Some(operator) => fault_of_changes(alloc, operator, fields_of(&field.value)),

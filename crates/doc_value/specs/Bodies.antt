@@ -19,7 +19,9 @@ first_found (found ∷ rest) = option_or found (first_found rest)
 
 abbrev pub first_in_fields : List (Named (Option (List ℕ))) → Option (List ℕ)
 first_in_fields [] = None
-first_in_fields (field ∷ fields) = if is_refused_name field.name then Some field.name else option_or field.value (first_in_fields fields)
+first_in_fields (field ∷ fields) =
+    if is_refused_name field.name then Some field.name
+    else option_or field.value (first_in_fields fields)
 
 abbrev pub refused_step : Value-F (Option (List ℕ)) → Option (List ℕ)
 refused_step (Value-F.List found) = first_found found
@@ -35,7 +37,8 @@ refused_inside = fold-Value (Option (List ℕ)) refused_step
 abbrev pub refused_at_top : DocId → Named Value → Option (List ℕ)
 refused_at_top id field =
     if is_id_name field.name then (if is_value_of_id id field.value then None else Some field.name)
-    else (if is_refused_name field.name || is_transaction_name field.name then Some field.name else refused_inside field.value)
+    else (if is_refused_name field.name || is_transaction_name field.name then Some field.name
+    else refused_inside field.value)
 
 abbrev pub first_refused : DocId → List (Named Value) → Option (List ℕ)
 first_refused id [] = None
@@ -49,7 +52,9 @@ unless_refused (Some name) fields = Err (BadField name)
 unless_refused None fields = Ok (Object (without_id fields))
 
 abbrev pub body_from : DocId → Value → Value-F Value → Result Value BodyFault
-body_from id value (Value-F.Object fields) = if nat_lt 90 (nesting value) then Err TooDeep else unless_refused (first_refused id fields) fields
+body_from id value (Value-F.Object fields) =
+    if nat_lt 90 (nesting value) then Err TooDeep
+    else unless_refused (first_refused id fields) fields
 body_from id value _ = Err NotObject
 
 abbrev pub body_in : DocId → Value → Result Value BodyFault

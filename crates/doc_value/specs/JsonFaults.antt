@@ -24,7 +24,8 @@ abbrev mutual
 
   pub some_member_has_bad_name : Members → Bool
   some_member_has_bad_name no_members = false
-  some_member_has_bad_name (member k d ms) = is_bad_name k || has_bad_name d || some_member_has_bad_name ms
+  some_member_has_bad_name (member k d ms) =
+      is_bad_name k || has_bad_name d || some_member_has_bad_name ms
 
 -- each number, at any depth, is a whole number of 64 bits
 abbrev mutual

@@ -17,7 +17,8 @@ all_ordered (ordered ∷ rest) = ordered && all_ordered rest
 
 abbrev pub fields_ordered : List (Named Bool) → Bool
 fields_ordered [] = true
-fields_ordered (field ∷ fields) = precedes field.name fields && (field.value && fields_ordered fields)
+fields_ordered (field ∷ fields) =
+    precedes field.name fields && (field.value && fields_ordered fields)
 
 -- one level, with each value inside already judged
 abbrev pub ordered_step : Value-F Bool → Bool

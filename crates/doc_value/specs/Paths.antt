@@ -41,7 +41,8 @@ path_in bytes = if is_utf8 bytes then path_of (length bytes) (parts_of bytes) el
 
 abbrev pub field_named : List ℕ → List (Named Value) → Option Value
 field_named name [] = None
-field_named name (field ∷ fields) = if bytes_eq field.name name then Some field.value else field_named name fields
+field_named name (field ∷ fields) =
+    if bytes_eq field.name name then Some field.value else field_named name fields
 
 -- the field of that name, of an object alone
 abbrev pub field_in : List ℕ → Value-F Value → Option Value

@@ -15,7 +15,8 @@ items_text later (text ∷ texts) = comma_if later ++ (text ++ items_text true t
 -- the same of an object's fields, each a quoted name, a colon and the text of its value
 abbrev pub fields_text : Bool → List (Named (List ℕ)) → List ℕ
 fields_text later [] = 125 ∷ []
-fields_text later (field ∷ fields) = comma_if later ++ (quoted field.name ++ 58 ∷ (field.value ++ fields_text true fields))
+fields_text later (field ∷ fields) =
+    comma_if later ++ (quoted field.name ++ 58 ∷ (field.value ++ fields_text true fields))
 
 -- one level, with each value inside already its text
 abbrev pub compact_step : Value-F (List ℕ) → List ℕ

@@ -15,7 +15,10 @@ json_in bytes = if is_utf8 bytes then read bytes else None
 
 abbrev pub value_from : Option Data → Result Value ValueFault
 value_from None = Err NotJson
-value_from (Some json) = if nat_lt 100 (depth json) then Err TooDeep else (if has_bad_name json then Err BadName else (if is_whole json then Ok (value_of json) else Err NotWhole))
+value_from (Some json) =
+    if nat_lt 100 (depth json) then Err TooDeep
+    else (if has_bad_name json then Err BadName
+    else (if is_whole json then Ok (value_of json) else Err NotWhole))
 
 abbrev pub value_in : List ℕ → Result Value ValueFault
 value_in bytes = value_from (json_in bytes)

@@ -14,7 +14,8 @@ same_items _ _ = false
 
 abbrev pub same_fields : List (Named (Value → Bool)) → List (Named Value) → Bool
 same_fields [] [] = true
-same_fields (test ∷ tests) (field ∷ fields) = bytes_eq test.name field.name && (test.value field.value && same_fields tests fields)
+same_fields (test ∷ tests) (field ∷ fields) =
+    bytes_eq test.name field.name && (test.value field.value && same_fields tests fields)
 same_fields _ _ = false
 
 abbrev pub same_layers : Value-F (Value → Bool) → Value-F Value → Bool

@@ -33,6 +33,3 @@ pub use print::{print_value, push_text, push_value};
 pub use read::read_value;
 pub use text::{OutOfMemory, Text};
 pub use value::{Field, Fields, Named, Value, copy_items};
-
-#[cfg(test)]
-mod tests;

@@ -57,7 +57,8 @@ fn write_value(out: &mut Vec<u8>, value: &Value) -> Result<(), OutOfMemory>
 
 #[cycle(print)]
 fn write_items(out: &mut Vec<u8>, items: &[Value]) -> Result<(), OutOfMemory>
-    ensures exact { OnOk result (out.new.items ≡ out.old.items ++ 91 ∷ items_text false (map compact items.now)) }
+    ensures exact { OnOk result (out.new.items ≡
+        out.old.items ++ 91 ∷ items_text false (map compact items.now)) }
     ensures sound { OnOk result (all_sound (map is_sound items.now) ≡ true) }
 {
     out.push(b'[')?;
@@ -73,7 +74,8 @@ fn write_items(out: &mut Vec<u8>, items: &[Value]) -> Result<(), OutOfMemory>
 
 #[cycle(print)]
 fn write_fields(out: &mut Vec<u8>, fields: &[Field]) -> Result<(), OutOfMemory>
-    ensures exact { OnOk result (out.new.items ≡ out.old.items ++ 123 ∷ fields_text false (map (judged compact) fields.now)) }
+    ensures exact { OnOk result (out.new.items ≡
+        out.old.items ++ 123 ∷ fields_text false (map (judged compact) fields.now)) }
     ensures sound { OnOk result (fields_sound (map (judged is_sound) fields.now) ≡ true) }
 {
     out.push(b'{')?;

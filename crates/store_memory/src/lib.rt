@@ -11,7 +11,5 @@ mod memory;
 mod positions;
 mod slot;
 mod store;
-#[cfg(test)]
-mod tests;
 
 pub use memory::MemoryStore;

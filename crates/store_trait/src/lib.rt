@@ -14,8 +14,6 @@ mod guards;
 mod name;
 mod side;
 mod store;
-#[cfg(test)]
-mod tests;
 
 pub use cell::{Cell, DocCell, Named, StashCell, Tokens, counter_in, doc_in, record_in, stash_in};
 pub use changes::{Changed, change, edits_keep_kinds};

@@ -20,6 +20,3 @@ pub use pouring::{PourFault, pour};
 pub use sink::Sink;
 pub use source::{Failed, Source};
 pub use standard::{StdSink, StdSource};
-
-#[cfg(test)]
-mod tests;

@@ -14,7 +14,9 @@ holds_byte byte name = list_any (λ b. b == byte) name
 
 -- the name of a collection: 1 to 120 bytes with no NUL, and not `_id`
 abbrev pub is_collection : List ℕ → Bool
-is_collection name = not ((length name == 0) || nat_lt 120 (length name) || holds_byte 0 name || bytes_eq name (codes "_id"))
+is_collection name =
+    not ((length name == 0) || nat_lt 120 (length name) || holds_byte 0 name
+    || bytes_eq name (codes "_id"))
 
 -- a text that is the id of a document: at most 1,024 bytes with no NUL
 abbrev pub is_text_id : List ℕ → Bool
@@ -34,4 +36,5 @@ key_with name id = option_map (λ d. record { c = name; d = d }) id
 
 -- the key that a collection and an id name
 abbrev pub key_in : Value → Value → Option Key
-key_in c d = option_and_then (λ name. key_with name (doc_id_of (out-Value d))) (collection_of (out-Value c))
+key_in c d =
+    option_and_then (λ name. key_with name (doc_id_of (out-Value d))) (collection_of (out-Value c))

@@ -96,6 +96,7 @@ impl Docs {
 /// A law: a key stands after the documents' keys until one that isn't below it is added.
 pub fn documents_rise()
     ensures empty { (key : KeyValue) → IsPast key map.empty }
-    ensures push { (docs : Documents) (last : KeyValue) (body : Body) (key : KeyValue) → IsPast last docs → key_cmp last key ≡ Less →
+    ensures push { (docs : Documents) (last : KeyValue) (body : Body) (key : KeyValue) →
+        IsPast last docs → key_cmp last key ≡ Less →
         IsPast key (map.insert docs last body) }
 {}

@@ -14,7 +14,8 @@ use std::alloc::Global;
 /// The keys, each once, in key order. They are sorted first, so that each new key goes to the end and no key
 /// moves.
 pub fn distinct_keys(alloc: Global, keys: Vec<&Key>) -> Result<Items<Key>, OutOfMemory>
-    ensures all { IfOk result (λ distinct_keys. distinct_keys ≡ distinct (map (λ key. key.now) keys.entry.items)) }
+    ensures all { IfOk result (λ distinct_keys. distinct_keys ≡
+        distinct (map (λ key. key.now) keys.entry.items)) }
     ensures rise { IfOk result (λ distinct_keys. keys_rise distinct_keys ≡ true) }
 {
     let mut sorted = keys;

@@ -14,6 +14,3 @@ pub use docs::{Doc, Docs, documents_rise};
 pub use id::{Token, TxnId, ids_are_ordered, tokens_read_back};
 pub use key::{Key, keys_are_ordered};
 pub use keys::{distinct_keys, place_of};
-
-#[cfg(test)]
-mod tests;

@@ -36,7 +36,8 @@ abbrev pub numbers_of : List Op → List ℤ → Numbers
 numbers_of ops first = numbers_at (keys_of ops) first
 
 abbrev pub numbers_after_op : Op → Numbers → Numbers
-numbers_after_op op numbers = insert numbers op.key (number_after op.change (number_at op.key numbers))
+numbers_after_op op numbers =
+    insert numbers op.key (number_after op.change (number_at op.key numbers))
 
 -- the numbers that operations leave
 abbrev pub numbers_after : List Op → Numbers → Numbers

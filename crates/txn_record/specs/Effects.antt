@@ -50,8 +50,10 @@ change_fits change.Remove found = true
 
 abbrev pub changes_fit : List Op → Docs → Bool
 changes_fit [] docs = true
-changes_fit (op ∷ ops) docs = change_fits op.change (get docs op.key) && changes_fit ops (effect_of op docs)
+changes_fit (op ∷ ops) docs =
+    change_fits op.change (get docs op.key) && changes_fit ops (effect_of op docs)
 
 -- Every assertion holds on the documents as they are before, and every change fits as the operations run.
 abbrev pub tests : List Op → Docs → Bool
-tests ops docs = list_all (λ op. assertion_holds op.assert (get docs op.key)) ops && changes_fit ops docs
+tests ops docs =
+    list_all (λ op. assertion_holds op.assert (get docs op.key)) ops && changes_fit ops docs

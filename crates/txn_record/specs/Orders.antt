@@ -26,7 +26,8 @@ is_right Aborted held = not held
 abbrev pub outcomes_right : Docs → List Entry → Bool
 outcomes_right base [] = true
 outcomes_right base (entry ∷ entries) =
-    is_right entry.outcome (tests entry.ops base) && outcomes_right (outcome_effect entry.outcome entry.ops base) entries
+    is_right entry.outcome (tests entry.ops base)
+    && outcomes_right (outcome_effect entry.outcome entry.ops base) entries
 
 -- an entry of that id stands there
 abbrev pub has_entry : List Entry → Entry → Bool

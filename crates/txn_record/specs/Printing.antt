@@ -38,8 +38,12 @@ field_of name None = []
 
 abbrev pub op_fields : Op → List (Named Value)
 op_fields op =
-    field_of (codes "a") (assert_value op.assert) ++ field_of (codes "c") (Some (Text op.key.c)) ++ field_of (codes "d") (Some (id_value op.key.d))
-    ++ field_of (codes "i") (insert_value op.change) ++ field_of (codes "r") (remove_value op.change) ++ field_of (codes "u") (update_value op.change)
+    field_of (codes "a") (assert_value op.assert)
+    ++ field_of (codes "c") (Some (Text op.key.c))
+    ++ field_of (codes "d") (Some (id_value op.key.d))
+    ++ field_of (codes "i") (insert_value op.change)
+    ++ field_of (codes "r") (remove_value op.change)
+    ++ field_of (codes "u") (update_value op.change)
 
 abbrev pub op_value : Op → Value
 op_value op = Object (op_fields op)

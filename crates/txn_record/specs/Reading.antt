@@ -75,7 +75,10 @@ if_there is_kind (Some value) = is_kind (out-Value value)
 
 -- an object of these fields, `c` a text and `r` a truth value where they are there
 abbrev pub has_form : Value → Bool
-has_form value = has_only_fields (out-Value value) && if_there is_text (collection_field value) && if_there is_truth (remove_field value)
+has_form value =
+    has_only_fields (out-Value value)
+    && if_there is_text (collection_field value)
+    && if_there is_truth (remove_field value)
 
 -- ---- its key
 
@@ -92,7 +95,9 @@ or_bad_key (Some key) = Ok key
 or_bad_key None = Err BadKey
 
 abbrev pub key_of : Option Value → Option Value → Result Key OpFault
-key_of (Some c) (Some d) = if is_empty_text (out-Value c) || is_null (out-Value d) then Err KeyMissing else or_bad_key (key_in c d)
+key_of (Some c) (Some d) =
+    if is_empty_text (out-Value c) || is_null (out-Value d) then Err KeyMissing
+    else or_bad_key (key_in c d)
 key_of (Some c) None = Err KeyMissing
 key_of None d = Err KeyMissing
 
@@ -111,7 +116,8 @@ abbrev pub is_removal : Value → Bool
 is_removal value = is_there is_true (remove_field value)
 
 abbrev pub has_several_changes : Option Value → Option Value → Bool → Bool
-has_several_changes insert update removal = (is_some insert && is_some update) || ((is_some insert || is_some update) && removal)
+has_several_changes insert update removal =
+    (is_some insert && is_some update) || ((is_some insert || is_some update) && removal)
 
 abbrev pub is_the_text : List ℕ → Value-F Value → Bool
 is_the_text word (Value-F.Text text) = bytes_eq text word
@@ -126,13 +132,15 @@ is_too_deep None = false
 is_too_deep (Some value) = nat_lt 90 (nesting value)
 
 abbrev pub is_some_too_deep : Option Value → Option Value → Option Value → Bool
-is_some_too_deep assert insert update = is_too_deep assert || is_too_deep insert || is_too_deep update
+is_some_too_deep assert insert update =
+    is_too_deep assert || is_too_deep insert || is_too_deep update
 
 -- the first fault in which parts an operation has, or in how deep they are
 abbrev pub fault_of_parts : Option Value → Option Value → Option Value → Bool → Option OpFault
 fault_of_parts assert insert update removal =
     if has_several_changes insert update removal then Some SeveralChanges
-    else (if not (is_some assert || is_some insert || is_some update || removal) then Some NothingSet
+    else (if not (is_some assert || is_some insert || is_some update || removal)
+    then Some NothingSet
     else (if is_some insert && not (is_missing_or_absent assert) then Some InsertAssert
     else (if is_some_too_deep assert insert update then Some TooDeep else None)))
 
@@ -160,7 +168,8 @@ abbrev pub assert_of : Option Value → Result Assert OpFault
 assert_of None = Ok assertion.Nothing
 assert_of (Some value) =
     if is_the_text (codes "d+") (out-Value value) then Ok assertion.Exists
-    else (if is_the_text (codes "d-") (out-Value value) then Ok assertion.Missing else or_bad_assert (query_in value))
+    else (if is_the_text (codes "d-") (out-Value value) then Ok assertion.Missing
+    else or_bad_assert (query_in value))
 
 -- ---- the operation
 
@@ -175,15 +184,20 @@ unless_fault None answer = answer
 
 abbrev pub op_of_parts : Key → Option Value → Option Value → Option Value → Bool → Result Op OpFault
 op_of_parts key assert insert update removal =
-    unless_fault (fault_of_parts assert insert update removal) (op_of key (change_of key.d insert update removal) (assert_of assert))
+    unless_fault (fault_of_parts assert insert update removal)
+    (op_of key (change_of key.d insert update removal) (assert_of assert))
 
 abbrev pub op_at : Value → Result Key OpFault → Result Op OpFault
-op_at value (Ok key) = op_of_parts key (assert_field value) (insert_field value) (update_field value) (is_removal value)
+op_at value (Ok key) =
+    op_of_parts key (assert_field value) (insert_field value) (update_field value)
+    (is_removal value)
 op_at value (Err why) = Err why
 
 -- the operation that a value is, or its first fault
 abbrev pub op_in : Value → Result Op OpFault
-op_in value = if has_form value then op_at value (key_of (collection_field value) (id_field value)) else Err BadOperation
+op_in value =
+    if has_form value then op_at value (key_of (collection_field value) (id_field value))
+    else Err BadOperation
 
 -- ---- the operations of a transaction
 
@@ -200,10 +214,13 @@ before (Ok op) (Ok ops) = Ok (op ∷ ops)
 -- all values as operations, the first of that number, or the first fault
 abbrev pub ops_from : ℕ → List Value → Result (List Op) OpsFault
 ops_from number [] = Ok []
-ops_from number (value ∷ values) = before (numbered number (op_in value)) (ops_from (suc number) values)
+ops_from number (value ∷ values) =
+    before (numbered number (op_in value)) (ops_from (suc number) values)
 
 abbrev pub ops_of_list : Value-F Value → Result (List Op) OpsFault
-ops_of_list (Value-F.List values) = if length values == 0 then Err Empty else (if nat_lt 1000 (length values) then Err TooMany else ops_from 0 values)
+ops_of_list (Value-F.List values) =
+    if length values == 0 then Err Empty
+    else (if nat_lt 1000 (length values) then Err TooMany else ops_from 0 values)
 ops_of_list _ = Err NotList
 
 abbrev pub ops_in : Value → Result (List Op) OpsFault

@@ -32,14 +32,17 @@ number_after change revno = if has_effect change revno then next_number change r
 
 -- the number that the first of these operations on a key finds
 abbrev pub first_on : Key → List Op → List ℤ → Option ℤ
-first_on key (op ∷ ops) (revno ∷ revnos) = if same_key key op.key then Some revno else first_on key ops revnos
+first_on key (op ∷ ops) (revno ∷ revnos) =
+    if same_key key op.key then Some revno else first_on key ops revnos
 first_on key [] _ = None
 first_on key _ [] = None
 
 -- one number an operation, and each operation finds what the one before it on the same key left
 abbrev pub follows : List Op → List ℤ → Bool
 follows [] [] = true
-follows (op ∷ ops) (revno ∷ revnos) = unwrap_or (option_map (int_eq (number_after op.change revno)) (first_on op.key ops revnos)) true && follows ops revnos
+follows (op ∷ ops) (revno ∷ revnos) =
+    unwrap_or (option_map (int_eq (number_after op.change revno)) (first_on op.key ops revnos)) true
+    && follows ops revnos
 follows [] (_ ∷ _) = false
 follows (_ ∷ _) [] = false
 
@@ -52,12 +55,15 @@ is_within revno = nat_le (unsigned_abs revno) revno_limit
 
 -- no number of a chain passes the limit, its ends included
 abbrev pub stays_within : List Op → List ℤ → Bool
-stays_within (op ∷ ops) (revno ∷ revnos) = is_within revno && is_within (number_after op.change revno) && stays_within ops revnos
+stays_within (op ∷ ops) (revno ∷ revnos) =
+    is_within revno && is_within (number_after op.change revno) && stays_within ops revnos
 stays_within [] _ = true
 stays_within _ [] = true
 
 -- whether a number is one of the chain's on a key, its end included
 abbrev pub is_on_chain : Key → ℤ → List Op → List ℤ → Bool
-is_on_chain key number (op ∷ ops) (revno ∷ revnos) = (same_key key op.key && (int_eq number revno || int_eq number (number_after op.change revno))) || is_on_chain key number ops revnos
+is_on_chain key number (op ∷ ops) (revno ∷ revnos) =
+    (same_key key op.key && (int_eq number revno || int_eq number (number_after op.change revno)))
+    || is_on_chain key number ops revnos
 is_on_chain key number [] _ = false
 is_on_chain key number _ [] = false

@@ -17,21 +17,26 @@ ghost use Rattle.txn_record.specs.Revnos.{first_on, follows, stays_within};
 
 /// An operation changes nothing but the body at its key.
 pub fn changes_are_local()
-    ensures here { (op : Op) (docs : Docs) → get (effect_of op docs) op.key ≡ body_after op.change (get docs op.key) }
-    ensures others { (op : Op) (docs : Docs) (key : Key) → key ≢ op.key → get (effect_of op docs) key ≡ get docs key }
+    ensures here { (op : Op) (docs : Docs) →
+        get (effect_of op docs) op.key ≡ body_after op.change (get docs op.key) }
+    ensures others { (op : Op) (docs : Docs) (key : Key) →
+        key ≢ op.key → get (effect_of op docs) key ≡ get docs key }
 {}
 
 /// A transaction of one operation runs that operation, where its own assertion holds and its change fits.
 pub fn operations_alone()
     ensures effect { (op : Op) (docs : Docs) → effect (op ∷ []) docs ≡ effect_of op docs }
     ensures tests { (op : Op) (docs : Docs) →
-        tests (op ∷ []) docs ≡ (assertion_holds op.assert (get docs op.key) && change_fits op.change (get docs op.key)) }
+        tests (op ∷ []) docs ≡
+        (assertion_holds op.assert (get docs op.key)
+        && change_fits op.change (get docs op.key)) }
 {}
 
 /// A recorded order grows at its end, by a transaction that was not there and was decided rightly.
 pub fn orders_grow()
     ensures after { (base : Docs) (entries : List Entry) (entry : Entry) →
-        after base (entries ++ entry ∷ []) ≡ outcome_effect entry.outcome entry.ops (after base entries) }
+        after base (entries ++ entry ∷ []) ≡
+        outcome_effect entry.outcome entry.ops (after base entries) }
     ensures legal { (base : Docs) (entries : List Entry) (entry : Entry) →
         legal base entries ≡ true → has_entry entries entry ≡ false →
         is_right entry.outcome (tests entry.ops (after base entries)) ≡ true →
@@ -41,10 +46,12 @@ pub fn orders_grow()
 /// Of a chain, each operation finds what the one before it on the same key left, and the first on a key
 /// what stands there; where the numbers have room, no number of it passes the limit.
 pub fn chains_follow()
-    ensures follows { (ops : List Op) (numbers : Numbers) → follows ops (found_by ops numbers) ≡ true }
+    ensures follows { (ops : List Op) (numbers : Numbers) →
+        follows ops (found_by ops numbers) ≡ true }
     ensures begins { (key : Key) (ops : List Op) (numbers : Numbers) → has_key key ops ≡ true →
         first_on key ops (found_by ops numbers) ≡ Some (number_at key numbers) }
-    ensures within { (ops : List Op) (first : List ℤ) → length ops ≤ 1000 → list_all has_room first ≡ true →
+    ensures within { (ops : List Op) (first : List ℤ) →
+        length ops ≤ 1000 → list_all has_room first ≡ true →
         stays_within ops (found_by ops (numbers_of ops first)) ≡ true }
 {}
 

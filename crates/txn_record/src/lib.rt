@@ -28,6 +28,3 @@ pub use ops::Ops;
 pub use record::{Record, copy_revnos};
 pub use revnos::{Chained, chain, has_room};
 pub use state::State;
-
-#[cfg(test)]
-mod tests;

@@ -106,7 +106,9 @@ fn is_empty_text(value: &Value) -> bool
 
 /// The first fault in which parts stand together, or in how deep they are.
 fn fault_of_parts(value: &Value) -> Option<OpFault>
-    ensures { result ≡ fault_of_parts (assert_field value.now) (insert_field value.now) (update_field value.now) (is_removal value.now) }
+    ensures { result ≡
+        fault_of_parts (assert_field value.now) (insert_field value.now) (update_field value.now)
+        (is_removal value.now) }
 {
     let assert = value.field(b"a");
     let insert = value.field(b"i");
@@ -128,13 +130,16 @@ fn fault_of_parts(value: &Value) -> Option<OpFault>
 }
 
 fn has_several_changes(insert: Option<&Value>, update: Option<&Value>, removes: bool) -> bool
-    ensures { result ≡ has_several_changes (option_copied insert.entry) (option_copied update.entry) removes }
+    ensures { result ≡
+        has_several_changes (option_copied insert.entry) (option_copied update.entry) removes }
 {
     (insert.is_some() && update.is_some()) || ((insert.is_some() || update.is_some()) && removes)
 }
 
 fn is_some_too_deep(assert: Option<&Value>, insert: Option<&Value>, update: Option<&Value>) -> bool
-    ensures { result ≡ is_some_too_deep (option_copied assert.entry) (option_copied insert.entry) (option_copied update.entry) }
+    ensures { result ≡
+        is_some_too_deep (option_copied assert.entry) (option_copied insert.entry)
+        (option_copied update.entry) }
 {
     is_too_deep(assert) || is_too_deep(insert) || is_too_deep(update)
 }
@@ -174,7 +179,9 @@ fn is_the_text(value: &Value, word: &[u8]) -> bool
 
 /// The change that `i`, `u` and `r` ask for, where no two of them do.
 fn read_change(alloc: Global, id: &DocId, value: &Value) -> Result<Change, Refusal>
-    ensures exact { Reads result (change_of id.now (insert_field value.now) (update_field value.now) (is_removal value.now)) }
+    ensures exact { Reads result
+        (change_of id.now (insert_field value.now) (update_field value.now)
+        (is_removal value.now)) }
     ensures body { IfOk result InsertsBody }
 {
     match (value.field(b"i"), value.field(b"u")) {

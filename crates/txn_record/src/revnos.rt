@@ -51,8 +51,10 @@ impl Chained {
 pub fn chain(alloc: Global, ops: &Ops, first: &[i64]) -> Result<Chained, OutOfMemory>
     requires count { length first.now ≡ length (keys_of ops.now) }
     requires room { list_all has_room first.now ≡ true }
-    ensures found { IfOk result (λ chained. chained.found ≡ found_by ops.now (numbers_of ops.now first.now)) }
-    ensures last { IfOk result (λ chained. chained.last ≡ values (numbers_after ops.now (numbers_of ops.now first.now))) }
+    ensures found { IfOk result (λ chained. chained.found ≡
+        found_by ops.now (numbers_of ops.now first.now)) }
+    ensures last { IfOk result (λ chained. chained.last ≡
+        values (numbers_after ops.now (numbers_of ops.now first.now))) }
 {
     let keys = keys_of(alloc, ops.as_slice())?;
     follow(alloc, ops.as_slice(), keys.as_slice(), first)
@@ -65,8 +67,10 @@ fn follow(alloc: Global, ops: &[Op], keys: &[Key], first: &[i64]) -> Result<Chai
     requires there { All (λ op. list_any (same_key op.key) keys.now ≡ true) ops.now }
     requires count { length first.now ≡ length keys.now }
     requires room { list_all has_room first.now ≡ true }
-    ensures found { IfOk result (λ chained. chained.found ≡ found_by ops.now (numbers_at keys.now first.now)) }
-    ensures last { IfOk result (λ chained. chained.last ≡ values (numbers_after ops.now (numbers_at keys.now first.now))) }
+    ensures found { IfOk result (λ chained. chained.found ≡
+        found_by ops.now (numbers_at keys.now first.now)) }
+    ensures last { IfOk result (λ chained. chained.last ≡
+        values (numbers_after ops.now (numbers_at keys.now first.now))) }
 {
     let mut last = Items::from_slice(alloc, first)?;
     let mut found = Items::new(alloc);

@@ -51,6 +51,7 @@ fault_text fault.BadBody = codes "bad body"
 fault_text fault.BadInfo = codes "bad info"
 fault_text fault.NoOperations = codes "no operations"
 fault_text fault.TooManyOperations = codes "too many operations"
-fault_text (fault.Operation number why) = codes "error in transaction op " ++ decimal number ++ codes ": " ++ op_text why
+fault_text (fault.Operation number why) =
+    codes "error in transaction op " ++ decimal number ++ codes ": " ++ op_text why
 fault_text fault.NotBuilt = codes "not built yet"
 fault_text fault.OutOfMemory = codes "out of memory"

@@ -59,12 +59,14 @@ abbrev pub is_too_deep : Option Value → Bool
 is_too_deep None = false
 is_too_deep (Some info) = nat_lt 90 (nesting info)
 
-abbrev pub submission_with : TxnId → Option Value → Result (List Op) OpsFault → Result Statement ScriptFault
+abbrev pub submission_with : TxnId → Option Value → Result (List Op) OpsFault →
+    Result Statement ScriptFault
 submission_with id info (Ok ops) = Ok (statement.Submit id ops info)
 submission_with id info (Err why) = Err (fault_of_ops why)
 
 abbrev pub submission_under : Option TxnId → Option Value → Value → Result Statement ScriptFault
-submission_under (Some id) info ops = if is_too_deep info then Err BadInfo else submission_with id info (ops_in ops)
+submission_under (Some id) info ops =
+    if is_too_deep info then Err BadInfo else submission_with id info (ops_in ops)
 submission_under None info ops = Err BadId
 
 abbrev pub submission_in : Value → Option Value → Value → Result Statement ScriptFault
@@ -92,12 +94,17 @@ statement_of_one field =
 
 abbrev pub statement_of_two : Named Value → Named Value → Result Statement ScriptFault
 statement_of_two first second =
-    if is_named first (codes "body") && is_named second (codes "doc") then doc_in second.value first.value
-    else (if is_named first (codes "ops") && is_named second (codes "txn") then submission_in second.value None first.value else Err NotBuilt)
+    if is_named first (codes "body") && is_named second (codes "doc")
+    then doc_in second.value first.value
+    else (if is_named first (codes "ops") && is_named second (codes "txn")
+    then submission_in second.value None first.value
+    else Err NotBuilt)
 
-abbrev pub statement_of_three : Named Value → Named Value → Named Value → Result Statement ScriptFault
+abbrev pub statement_of_three : Named Value → Named Value → Named Value →
+    Result Statement ScriptFault
 statement_of_three first second third =
-    if is_named first (codes "info") && is_named second (codes "ops") && is_named third (codes "txn")
+    if is_named first (codes "info") && is_named second (codes "ops")
+    && is_named third (codes "txn")
     then submission_in third.value (Some first.value) second.value else Err NotBuilt
 
 abbrev pub statement_of_fields : List (Named Value) → Result Statement ScriptFault

@@ -9,6 +9,3 @@ mod statement;
 pub use fault::ScriptFault;
 pub use print::{push_document, push_key};
 pub use statement::{Statement, read_line};
-
-#[cfg(test)]
-mod tests;

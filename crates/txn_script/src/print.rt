@@ -8,7 +8,8 @@ use txn_key::{Doc, Key};
 
 /// A document's line: its collection and id as JSON, and its body, with blanks between.
 pub fn push_document(out: &mut Vec<u8>, doc: &Doc) -> Result<(), OutOfMemory>
-    ensures { OnOk result (out.new.items ≡ out.old.items ++ document_line (doc.now.key, doc.now.body)) }
+    ensures { OnOk result (out.new.items ≡
+        out.old.items ++ document_line (doc.now.key, doc.now.body)) }
 {
     push_key(out, &doc.key)?;
     out.push(b' ')?;

@@ -93,7 +93,8 @@ fn is_blank_byte(byte: u8) -> bool
 }
 
 fn read_statement(alloc: Global, value: &Value) -> Result<Statement, ScriptFault>
-    ensures { result ≢ Err ScriptFault.OutOfMemory → result ≡ statement_of_value (out-Value value.now) }
+    ensures { result ≢ Err ScriptFault.OutOfMemory →
+        result ≡ statement_of_value (out-Value value.now) }
 {
     match value {
         Value::Object(fields) => read_fields(alloc, fields.as_slice()),

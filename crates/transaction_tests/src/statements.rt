@@ -1,0 +1,388 @@
+//! The lines of scripts. How documents are shown stands as a script in `examples/values.jsonl`.
+use doc_value::OutOfMemory;
+use std::alloc::Global;
+use std::test::Fail;
+use txn_script::{ScriptFault, Statement, read_line};
+
+/// Lines and their kind, or the text that refuses them.
+static LINES: [(&str, &str); 65] = [
+    ("", "nothing"),
+    (" \t\r", "nothing"),
+    (r#"# {"show":true}"#, "nothing"),
+    ("#", "nothing"),
+    ("#{\"txn\":\"x\"}\r", "nothing"),
+    ("\t{\"show\":true} \r", "show"),
+    (" # x", "not JSON"),
+    ("\u{c}", "not JSON"),
+    (r#"{"show":true} # x"#, "not JSON"),
+    (r#"{"show":tru}"#, "not JSON"),
+    (r#"{"show":true"#, "not JSON"),
+    (r#"{"":true}"#, "bad field name"),
+    (r#"{"a\u0000":true}"#, "bad field name"),
+    ("1.5", "number not whole"),
+    ("[-0]", "number not whole"),
+    (r#"{"go":1e2}"#, "number not whole"),
+    ("9223372036854775808", "number not whole"),
+    (r#"{"doc":["k","a"],"body":{"v":0}}"#, "doc"),
+    (r#"{"body":{"_id":7},"doc":["k",7]}"#, "doc"),
+    (r#"{"body":{},"doc":["k",""]}"#, "doc"),
+    (r#"{"body":{},"doc":[]}"#, "bad body"),
+    (r#"{"body":{},"doc":["k"]}"#, "bad body"),
+    (r#"{"body":{},"doc":["k","a","b"]}"#, "bad body"),
+    (r#"{"body":{},"doc":"k"}"#, "bad body"),
+    (r#"{"body":{},"doc":{"c":"k","d":"a"}}"#, "bad body"),
+    (r#"{"body":{},"doc":["","a"]}"#, "bad body"),
+    (r#"{"body":{},"doc":["_id","a"]}"#, "bad body"),
+    (r#"{"body":{},"doc":[1,"a"]}"#, "bad body"),
+    (r#"{"body":{},"doc":["k",null]}"#, "bad body"),
+    (r#"{"body":{},"doc":["k",true]}"#, "bad body"),
+    (r#"{"body":[],"doc":["k","a"]}"#, "bad body"),
+    (r#"{"body":{"txn-x":1},"doc":["k","a"]}"#, "bad body"),
+    (r#"{"body":{"_id":"7"},"doc":["k",7]}"#, "bad body"),
+    (r#"{"body":{"a":[{"b.c":1}]},"doc":["k","a"]}"#, "bad body"),
+    (
+        r#"{"txn":"000000000000000000000001","ops":[{"c":"k","d":"a","u":{"$set":{"v":1}}}]}"#,
+        "submit",
+    ),
+    (
+        r#"{"ops":[{"c":"k","d":"a","u":{"$set":{"v":1}}}],"info":null,"txn":"000000000000000000000001"}"#,
+        "submit with info",
+    ),
+    (
+        r#"{"ops":[{"c":"k","d":"a","u":{"$set":{"v":1}}}],"txn":"00000000000000000000000A"}"#,
+        "submit",
+    ),
+    (
+        r#"{"ops":[{"c":"k","d":"a","u":{"$set":{"v":1}}}],"txn":"00000000000000000000001"}"#,
+        "bad id",
+    ),
+    (
+        r#"{"ops":[{"c":"k","d":"a","u":{"$set":{"v":1}}}],"txn":"0000000000000000000000001"}"#,
+        "bad id",
+    ),
+    (
+        r#"{"ops":[{"c":"k","d":"a","u":{"$set":{"v":1}}}],"txn":"00000000000000000000000g"}"#,
+        "bad id",
+    ),
+    (
+        r#"{"ops":[{"c":"k","d":"a","u":{"$set":{"v":1}}}],"txn":1}"#,
+        "bad id",
+    ),
+    (
+        r#"{"ops":null,"txn":"000000000000000000000001"}"#,
+        "no operations",
+    ),
+    (
+        r#"{"ops":{"c":"k","d":"a","u":{"$set":{"v":1}}},"txn":"000000000000000000000001"}"#,
+        "no operations",
+    ),
+    (
+        r#"{"ops":[],"txn":"000000000000000000000001"}"#,
+        "no operations",
+    ),
+    (r#"{"go":{}}"#, "go"),
+    (r#"{"show":true}"#, "show"),
+    (r#"{"show":false,"show":true}"#, "show"),
+    (r#"{"go":{"runners":2}}"#, "not built yet"),
+    (r#"{"go":[]}"#, "not built yet"),
+    (r#"{"go":true}"#, "not built yet"),
+    (r#"{"show":false}"#, "not built yet"),
+    (r#"{"show":1}"#, "not built yet"),
+    (r#"{"Show":true}"#, "not built yet"),
+    ("null", "not built yet"),
+    (r#"["show"]"#, "not built yet"),
+    ("{}", "not built yet"),
+    (r#"{"body":{}}"#, "not built yet"),
+    (r#"{"doc":["k","a"]}"#, "not built yet"),
+    (r#"{"audit":true}"#, "not built yet"),
+    (r#"{"cell":"nonce","is":{"next":1}}"#, "not built yet"),
+    (r#"{"go":{},"show":true}"#, "not built yet"),
+    (
+        r#"{"info":1,"ops":[{"c":"k","d":"a","u":{"$set":{"v":1}}}],"to":1,"txn":"000000000000000000000001"}"#,
+        "not built yet",
+    ),
+    (
+        r#"{"Info":1,"ops":[{"c":"k","d":"a","u":{"$set":{"v":1}}}],"txn":"000000000000000000000001"}"#,
+        "not built yet",
+    ),
+    (
+        r#"{"info":1,"txn":"000000000000000000000001"}"#,
+        "not built yet",
+    ),
+    (
+        r#"{"info":1,"ops":[{"c":"k","d":"a","u":{"$set":{"v":1}}}]}"#,
+        "not built yet",
+    ),
+];
+
+/// Lines with two faults, and the text of the first by the order of the tests.
+static DOUBLY_FAULTY: [(&str, &str); 18] = [
+    (r#"{"":1.5"#, "not JSON"),
+    (r#"{"txn":"x","ops":[]"#, "not JSON"),
+    (r#"{"a":1.5,"":1}"#, "bad field name"),
+    (r#"{"doc":5,"body":{"":1}}"#, "bad field name"),
+    (r#"{"x":1.5}"#, "number not whole"),
+    (r#"{"txn":"x","ops":[1.5]}"#, "number not whole"),
+    (r#"{"body":1.5,"doc":5}"#, "number not whole"),
+    (r#"{"ops":[],"txn":"x"}"#, "bad id"),
+    (r#"{"ops":5,"txn":null}"#, "bad id"),
+    (r#"{"ops":[{}],"txn":"x"}"#, "bad id"),
+    (r#"{"ops":[5,5],"info":1,"txn":[]}"#, "bad id"),
+    (r#"{"body":5,"doc":5}"#, "bad body"),
+    (r#"{"body":{"$a":1},"doc":["k",null]}"#, "bad body"),
+    (r#"{"txn":"x"}"#, "not built yet"),
+    (r#"{"txn":"x","ops":[],"y":1}"#, "not built yet"),
+    (r#"{"body":5,"doc":5,"x":1}"#, "not built yet"),
+    (r#"{"ops":[],"show":false}"#, "not built yet"),
+    (r#"{"show":1.5,"show":false}"#, "not built yet"),
+];
+
+/// Faulty operations, and the text of the first fault of the first faulty one.
+static OPERATIONS: [(&str, &str); 19] = [
+    ("5", "error in transaction op 0: bad operation"),
+    (
+        r#"{"c":"k","d":"a","x":1}"#,
+        "error in transaction op 0: bad operation",
+    ),
+    (r#"{"c":"k"}"#, "error in transaction op 0: C or Id missing"),
+    (
+        r#"{"c":"k","d":[],"r":true}"#,
+        "error in transaction op 0: bad collection or id",
+    ),
+    (
+        r#"{"c":"k","d":"a","i":{},"r":true}"#,
+        "error in transaction op 0: more than one of Insert/Update/Remove set",
+    ),
+    (
+        r#"{"c":"k","d":"a","r":false}"#,
+        "error in transaction op 0: none of Assert/Insert/Update/Remove set",
+    ),
+    (
+        r#"{"c":"k","d":"a","a":"d+","i":{}}"#,
+        "error in transaction op 0: Insert can only Assert d-",
+    ),
+    (
+        r#"{"c":"k","d":"a","i":[]}"#,
+        "error in transaction op 0: bad insert",
+    ),
+    (
+        r#"{"c":"k","d":"a","u":{}}"#,
+        "error in transaction op 0: bad update",
+    ),
+    (
+        r#"{"c":"k","d":"a","a":"d"}"#,
+        "error in transaction op 0: bad assert",
+    ),
+    (
+        r#"{"c":"","r":1}"#,
+        "error in transaction op 0: bad operation",
+    ),
+    (
+        r#"{"c":"","d":true}"#,
+        "error in transaction op 0: C or Id missing",
+    ),
+    (
+        r#"{"c":"_id","d":"a","i":{},"r":true}"#,
+        "error in transaction op 0: bad collection or id",
+    ),
+    (
+        r#"{"c":"k","d":"a","i":5,"u":5}"#,
+        "error in transaction op 0: more than one of Insert/Update/Remove set",
+    ),
+    (
+        r#"{"c":"k","d":"a","a":7,"i":5}"#,
+        "error in transaction op 0: Insert can only Assert d-",
+    ),
+    (
+        r#"{"c":"k","d":"a","a":7,"u":5}"#,
+        "error in transaction op 0: bad update",
+    ),
+    (
+        r#"{"c":"k","d":"a","a":7},5"#,
+        "error in transaction op 0: bad assert",
+    ),
+    (
+        r#"{"c":"k","d":"a","a":"d-"},{"c":"k"},5"#,
+        "error in transaction op 1: C or Id missing",
+    ),
+    (
+        r#"{"c":"k","d":"a","r":true},{"c":"k","d":"a","a":{}},{"c":"k","d":"a","u":5},{}"#,
+        "error in transaction op 2: bad update",
+    ),
+];
+
+/// Lines in which `@` stands for lists nested so deep.
+static NESTED: [(&str, usize, &str); 25] = [
+    ("@", 100, "not built yet"),
+    ("@", 101, "nested too deep"),
+    ("@", 127, "nested too deep"),
+    ("@", 128, "not JSON"),
+    ("[@", 101, "not JSON"),
+    ("[@,1.5]", 99, "number not whole"),
+    ("[@,1.5]", 100, "nested too deep"),
+    (r#"{"":1,"x":@}"#, 99, "bad field name"),
+    (r#"{"":1,"x":@}"#, 100, "nested too deep"),
+    (r#"{"body":{"a":@},"doc":["k","a"]}"#, 89, "doc"),
+    (r#"{"body":{"a":@},"doc":["k","a"]}"#, 90, "bad body"),
+    (r#"{"body":{},"doc":@}"#, 99, "bad body"),
+    (
+        r#"{"info":@,"ops":[{"c":"k","d":"a","u":{"$set":{"v":1}}}],"txn":"000000000000000000000001"}"#,
+        90,
+        "submit with info",
+    ),
+    (
+        r#"{"info":@,"ops":[{"c":"k","d":"a","u":{"$set":{"v":1}}}],"txn":"000000000000000000000001"}"#,
+        91,
+        "bad info",
+    ),
+    (
+        r#"{"info":@,"ops":[],"txn":"000000000000000000000001"}"#,
+        90,
+        "no operations",
+    ),
+    (
+        r#"{"info":@,"ops":[],"txn":"000000000000000000000001"}"#,
+        91,
+        "bad info",
+    ),
+    (
+        r#"{"info":@,"ops":[{}],"txn":"000000000000000000000001"}"#,
+        91,
+        "bad info",
+    ),
+    (
+        r#"{"info":@,"ops":[{"c":"k","d":"a","u":{"$set":{"v":1}}}],"txn":"x"}"#,
+        91,
+        "bad id",
+    ),
+    (
+        r#"{"info":@,"txn":"000000000000000000000001"}"#,
+        91,
+        "not built yet",
+    ),
+    (
+        r#"{"info":@,"ops":[{"c":"k","d":"a","u":{"$set":{"v":1}}}],"txn":"000000000000000000000001"}"#,
+        100,
+        "nested too deep",
+    ),
+    (r#"{"ops":[],"txn":@}"#, 99, "bad id"),
+    (r#"{"ops":[],"txn":@}"#, 100, "nested too deep"),
+    (
+        r#"{"ops":@,"txn":"000000000000000000000001"}"#,
+        99,
+        "error in transaction op 0: bad operation",
+    ),
+    (
+        r#"{"ops":[{"c":"k","d":"a","u":@}],"txn":"000000000000000000000001"}"#,
+        90,
+        "error in transaction op 0: bad update",
+    ),
+    (
+        r#"{"ops":[{"c":"k","d":"a","u":@}],"txn":"000000000000000000000001"}"#,
+        91,
+        "error in transaction op 0: nested too deep",
+    ),
+];
+
+/// Operations in which `@` stands for so many that are not faulty.
+static COUNTED: [(&str, usize, &str); 4] = [
+    (r#"@{"c":"k","d":"a","r":true}"#, 999, "submit"),
+    (
+        r#"@{"c":"k","d":"a","r":true}"#,
+        1000,
+        "too many operations",
+    ),
+    ("@5", 999, "error in transaction op 999: bad operation"),
+    ("@5", 1000, "too many operations"),
+];
+
+const OPERATION: &str = r#"{"c":"k","d":"a","a":"d-"},"#;
+
+fn kind(statement: &Statement) -> &'static str {
+    match statement {
+        Statement::Doc { .. } => "doc",
+        Statement::Submit { info: None, .. } => "submit",
+        Statement::Submit { .. } => "submit with info",
+        Statement::Go => "go",
+        Statement::Show => "show",
+    }
+}
+
+/// Whether a line has that kind, or is refused by that text.
+fn is_read_as(alloc: Global, line: &[u8], expected: &str) -> Result<bool, OutOfMemory> {
+    match read_line(alloc, line) {
+        Ok(None) => Ok(expected == "nothing"),
+        Ok(Some(statement)) => Ok(kind(&statement.copy(alloc)?) == expected),
+        Err(fault) => Ok(fault.text(alloc)?.as_str() == expected),
+    }
+}
+
+#[test]
+fn lines_are_read_or_refused(rt: HostRuntime) -> Result<(), Fail> {
+    for (line, expected) in LINES.iter().chain(DOUBLY_FAULTY.iter()) {
+        assert!(rt;
+            is_read_as(rt.alloc(), line.as_bytes(), expected)?,
+            "{line}"
+        );
+    }
+    assert!(rt; is_read_as(rt.alloc(), b"# \xff\xfe", "nothing")?);
+    assert!(rt; is_read_as(rt.alloc(), b"\xff", "not JSON")?);
+    assert!(rt; ScriptFault::OutOfMemory.text(rt.alloc())?.as_str() == "out of memory");
+    Ok(())
+}
+
+fn submission(alloc: Global, ops: &str) -> Result<String, OutOfMemory> {
+    format!(in alloc; "{{\"txn\":\"000000000000000000000001\",\"ops\":[{ops}]}}")
+}
+
+fn push_times(out: &mut String, times: usize, piece: &str) -> Result<(), OutOfMemory> {
+    for _ in 0..times {
+        out.push_str(piece)?;
+    }
+    Ok(())
+}
+
+/// The line with so many copies of two texts, one before and one after, in the place of its `@`.
+fn filled(alloc: Global, line: &str, times: usize, pieces: [&str; 2]) -> Result<String, Fail> {
+    let (before, after) = line.split_once('@').ok_or("no @")?;
+    let mut whole = String::from_str(alloc, before)?;
+    push_times(&mut whole, times, pieces[0])?;
+    push_times(&mut whole, times, pieces[1])?;
+    whole.push_str(after)?;
+    Ok(whole)
+}
+
+fn is_submission(alloc: Global, ops: &str, expected: &str) -> Result<bool, OutOfMemory> {
+    let line = submission(alloc, ops)?;
+    is_read_as(alloc, line.as_bytes(), expected)
+}
+
+fn is_counted(alloc: Global, ops: &str, count: usize, expected: &str) -> Result<bool, Fail> {
+    let ops = filled(alloc, ops, count, [OPERATION, ""])?;
+    Ok(is_submission(alloc, ops.as_str(), expected)?)
+}
+
+fn is_nested(alloc: Global, line: &str, depth: usize, expected: &str) -> Result<bool, Fail> {
+    let line = filled(alloc, line, depth, ["[", "]"])?;
+    Ok(is_read_as(alloc, line.as_bytes(), expected)?)
+}
+
+#[test]
+fn operations_have_faults_and_limits(rt: HostRuntime) -> Result<(), Fail> {
+    for (ops, expected) in &OPERATIONS {
+        assert!(rt; is_submission(rt.alloc(), ops, expected)?, "{ops}");
+    }
+    for (ops, count, expected) in &COUNTED {
+        assert!(rt;
+            is_counted(rt.alloc(), ops, *count, expected)?,
+            "{ops} {count}"
+        );
+    }
+    for (line, depth, expected) in &NESTED {
+        assert!(rt;
+            is_nested(rt.alloc(), line, *depth, expected)?,
+            "{line} {depth}"
+        );
+    }
+    Ok(())
+}

@@ -1,7 +1,0 @@
-use Rattle.std.proofs.Common.{◌≡◌, drop}
-use Rattle.std.specs.List.{list_all}
-use Rattle.txn_record.specs.Chain.{has_room}
-use Rattle.txn_record.proofs.tests.all_have_room.Given as goal
-
-abbrev pub invariant-loop-number : goal.invariant-loop-number
-invariant-loop-number l = list_all has_room (drop l.number-index l.numbers) ≡ list_all has_room l.numbers
