@@ -36,9 +36,9 @@ inserts : (rec : Record) (name : Name) (found : Option Cell) → may_leave name 
 inserts rec (name.Record id) None = where_tested (same_id id rec.id) (name.Record id) (cell.Record rec) (λ e. e)
 inserts rec _ _ = refl
 
-moves : (from to : State) (nonce : Option ℕ) (revnos : Option (List ℤ)) (name : Name) (found : Option Cell) → may_hold name found ≡ true → may_leave name (hit_move from to nonce revnos name found) ≡ true
-moves from to nonce revnos (name.Record id) (Some (cell.Record rec)) h = where_tested (same_state rec.state from) (name.Record id) (cell.Record (moved to nonce revnos rec)) (λ _. h)
-moves from to nonce revnos _ _ h = refl
+moves : (from to : State) (drawn : Option ℕ) (revnos : Option (List ℤ)) (name : Name) (found : Option Cell) → may_hold name found ≡ true → may_leave name (hit_move from to drawn revnos name found) ≡ true
+moves from to drawn revnos (name.Record id) (Some (cell.Record rec)) h = where_tested (same_state rec.state from) (name.Record id) (cell.Record (moved to drawn revnos rec)) (λ _. h)
+moves from to drawn revnos _ _ h = refl
 
 adds : (token : Token) (name : Name) (found : Option Cell) → may_leave name (hit_add_token token name found) ≡ true
 adds token (name.Doc key) (Some (cell.Doc doc)) = where_tested (is_none doc.remove) (name.Doc key) (cell.Doc (record doc { queue = with_token token doc.queue })) (λ _. refl)
