@@ -25,7 +25,7 @@ use Rattle.store_laws.specs.Placed.{new_doc}
 use Rattle.store_laws.proofs.Equals.{by_key}
 use Rattle.store_laws.proofs.Looks.{put, read_put, doc_writes}
 use Rattle.store_laws.proofs.Queues.{in_put, in_without}
-use Rattle.store_laws.proofs.UpdateEdits.{by_update}
+use Rattle.store_laws.proofs.Late.{by_update}
 
 -- An edit of another cell.
 

@@ -1,5 +1,5 @@
 -- An applying record closes once its operations have passed.
-use Rattle.std.proofs.Common.{◌≡◌, ℕ, ℤ, ◌≤◌, ◌+◌, le_refl, le_trans, le_antisymm, lt_irrefl, lt_of_lt_of_le, Bool, true, false, Option, Some, None, List, [], ◌∷◌, ◌⊎◌, inl, inr, ⊎_elim, sym, ap, ◌∙◌, refl, subst, unsigned_abs, unwrap_or, true≢false, option_map, ◌&&◌, is_some, nat_le, arith, if◌then◌else◌}
+use Rattle.std.proofs.Common.{◌≡◌, ℕ, ℤ, ◌<◌, ◌≤◌, ◌+◌, le_refl, le_trans, le_antisymm, lt_irrefl, lt_of_lt_of_le, Bool, true, false, Option, Some, None, List, [], ◌∷◌, ◌⊎◌, inl, inr, ⊎_elim, sym, ap, ◌∙◌, refl, subst, unsigned_abs, unwrap_or, true≢false, option_map, ◌&&◌, is_some, nat_le, arith, if◌then◌else◌}
 use Rattle.std.proofs.lemmas.Bool.{and_parts}
 use Rattle.std.proofs.lemmas.Option.{same_Some}
 use Rattle.std.specs.Prelude.{option_to_list}
@@ -14,7 +14,7 @@ use Rattle.txn_record.specs.declared.op.Op.{Op}
 use Rattle.txn_record.specs.declared.record.Record.{Record}
 use Rattle.txn_record.specs.declared.state.State.TheVariants as state
 use Rattle.store_trait.specs.Contents.{Content}
-use Rattle.store_laws.specs.Done.{HasPassed, AllPassed, progress}
+use Rattle.store_laws.specs.Done.{HasPassed, AllPassed}
 use Rattle.store_trait.specs.Edits.{moved, edited}
 use Rattle.store_laws.specs.Meaning.{pending_of, not_done}
 use Rattle.store_trait.specs.Names.{same_state}
@@ -26,13 +26,15 @@ use Rattle.store_trait.specs.declared.edit.Edit.TheVariants as edit
 use Rattle.store_trait.specs.declared.name.Name.TheVariants as name
 use Rattle.store_laws.proofs.Bodies.{body_in}
 use Rattle.store_laws.proofs.Decided.{decided_by-put}
-use Rattle.store_laws.proofs.Done.{done_put, progress_epoch}
+use Rattle.store_laws.proofs.Done.{done_put, passed_above}
 use Rattle.store_laws.proofs.Effects.{meaning-closed}
 use Rattle.store_laws.proofs.Exclusive.{one_applying}
 use Rattle.store_laws.proofs.Idle.{OnlyApplies, on_pending, pending_of-applying}
 use Rattle.store_laws.proofs.RecordEdits.{idle, settled_step, settled_already, stored_numbers}
 use Rattle.store_laws.proofs.KindsOfMove.{close_step}
 use Rattle.store_laws.proofs.Looks.{record_looks}
+use Rattle.store_laws.proofs.Lookups
+use Rattle.store_laws.proofs.Marks.{MarksApart}
 use Rattle.store_laws.proofs.Misses.{quiet_itself, by_move}
 use Rattle.store_laws.proofs.ChainOrder.{same_on_chain}
 use Rattle.store_laws.proofs.Inherits.{First, head_has, tail_here, tail_away, at_on, at_found, chain_has}
@@ -43,6 +45,7 @@ use Rattle.std.proofs.lemmas.Bool.Decides.{nat_tests}
 use Rattle.store_laws.proofs.Orderly.{orderly}
 use Rattle.store_laws.proofs.Owning.{held_agrees}
 use Rattle.store_laws.proofs.Views.{applying_at}
+use Rattle.store_laws.proofs.Parts.{parts}
 
 -- What is still to be done is an operation at a number that its key's owner isn't past.
 
@@ -101,18 +104,18 @@ module _ (key : Key) (limit : ℕ) where
           tail_here key (λ m. unsigned_abs m ≤ limit) o ops y revnos chain same
           (stays_below o.change y (head_has key (λ m. unsigned_abs m ≤ limit) o ops y revnos same first) (λ reached. idle o y (inl (refl, refl)) (sym same) reached))
 
-passed_at : (c : Content) (op : Op) (revno : ℤ) (ops : List Op) (revnos : List ℤ) → AllPassed c ops revnos → IsAt op revno ops revnos → HasPassed c op revno
-passed_at c op revno [] revnos all at = absurd at
-passed_at c op revno (o ∷ ops) [] all at = absurd at
-passed_at c op revno (o ∷ ops) (x ∷ revnos) all (inl here) = subst (HasPassed c op) here.1 (subst (λ (p : Op). HasPassed c p x) here.0 all.0)
-passed_at c op revno (o ∷ ops) (x ∷ revnos) all (inr later) = passed_at c op revno ops revnos all.1 later
+passed_at : (view : View) (op : Op) (revno : ℤ) (ops : List Op) (revnos : List ℤ) → AllPassed view ops revnos → IsAt op revno ops revnos → HasPassed view op revno
+passed_at view op revno [] revnos all at = absurd at
+passed_at view op revno (o ∷ ops) [] all at = absurd at
+passed_at view op revno (o ∷ ops) (x ∷ revnos) all (inl here) = subst (HasPassed view op) here.1 (subst (λ (p : Op). HasPassed view p x) here.0 all.0)
+passed_at view op revno (o ∷ ops) (x ∷ revnos) all (inr later) = passed_at view op revno ops revnos all.1 later
 
 module _ (c : Content) (s : IsSound c) (id : TxnId) (was : Record) (there : record_at c id ≡ Some was) (from : was.state ≡ state.Applying) where
   is_applying : applying (look c) id ≡ true
   unfolding look
   is_applying = applying_at (look c) id was there ∙ ap (same_state state.Applying) from
 
-  module _ (numbers : List ℤ) (numbered : was.revnos ≡ Some numbers) (passed : AllPassed c was.ops numbers) where
+  module _ (numbers : List ℤ) (numbered : was.revnos ≡ Some numbers) (passed : AllPassed (look c) was.ops numbers) where
     only : (key : Key) → IsOn key was.ops → OnlyApplies (look c) id key
     unfolding look
     only key on other applies has apart = one_applying (orderly c s) key other id has (record { rec = was; there = there; on = on }) applies is_applying apart
@@ -128,14 +131,15 @@ module _ (c : Content) (s : IsSound c) (id : TxnId) (was : Record) (there : reco
 
     owner_on_chain : (key : Key) → IsOn key was.ops → is_on_chain key (owner key) was.ops numbers ≡ true
     owner_on_chain key on =
-        sym (ap (λ (o : Option (List ℤ)). is_on_chain key (owner key) was.ops (unwrap_or o [])) numbered) ∙ (s.on_chain id was there (ap (same_state state.Applying) from)).on_chain key on
+        sym (ap (λ (o : Option (List ℤ)). is_on_chain key (owner key) was.ops (unwrap_or o [])) numbered) ∙ ((parts c s).on_chain id was there (ap (same_state state.Applying) from)).on_chain key on
 
     -- an operation that its key's owner isn't past does nothing
     idle_from : (key : Key) → Idle key (unsigned_abs (owner key)) was.ops numbers
-    idle_from key op x at on_key reached = ⊎_elim
-        (λ e. e)
-        (λ less. absurd (lt_irrefl _ (lt_of_lt_of_le (lt_of_lt_of_le less (subst (λ (k : Key). progress c op.key ≤ epoch_at (look c) k) on_key (progress_epoch c op.key))) reached)))
-        (passed_at c op x was.ops numbers passed at)
+    idle_from key op x at on_key reached = by (has_effect op.change x) refl
+      where
+        by : (b : Bool) → has_effect op.change x ≡ b → has_effect op.change x ≡ false
+        by false e = e
+        by true acts = absurd (lt_irrefl _ (lt_of_lt_of_le (subst (λ (k : Key). unsigned_abs x < epoch_at (look c) k) on_key (passed_above (look c) op x (passed_at (look c) op x was.ops numbers passed at) acts)) reached))
 
     -- its number is the owner's
     at_owner : (op : Op) (x : ℤ) → IsAt op x was.ops numbers → epoch_at (look c) op.key ≤ unsigned_abs x → x ≡ owner op.key
@@ -159,10 +163,20 @@ module _ (c : Content) (s : IsSound c) (id : TxnId) (was : Record) (there : reco
           (idle_from op.key op w.revno w.at refl w.reached)),
     )
 
+    -- no mark on an owner is of it: it would be of an operation with an effect that has passed
+    apart : MarksApart c id
+    unfolding look
+    apart key mark is_kind m acts e =
+        let same : m.rec ≡ was = same_Some m.rec was (sym m.there ∙ ap (record_at c) e ∙ there) in
+        let chain : m.numbers ≡ numbers = same_Some m.numbers numbers (sym m.numbered ∙ ap (λ (r : Record). r.revnos) same ∙ numbered) in
+        let at = subst (λ (r : Record). IsAt m.op (owner key) r.ops numbers) same (subst (IsAt m.op (owner key) m.rec.ops) chain m.stands) in
+        lt_irrefl (unsigned_abs (owner key)) (subst (λ (k : Key). unsigned_abs (owner key) < epoch_at (look c) k) m.on (passed_above (look c) m.op (owner key) (passed_at (look c) m.op (owner key) was.ops numbers passed at) acts))
+
     closed : IsQuiet c (insert c (name.Record id) (cell.Record (moved state.Applied None None was)))
     unfolding look
     closed = record {
-      step = settled_step c id state.Applying state.Applied was s there from refl refl refl refl (close_step id was (orderly c s) (record_looks c id rec) there from) (done_put c id rec all_passed);
+      step = settled_step c id state.Applying state.Applied was s there from refl refl refl refl apart (close_step id was (orderly c s) (record_looks c id rec) there from) (done_put c id rec all_passed);
+      entry = λ key. inl (Lookups.stash_at-put_record c (cell.Record rec) id key);
       means = meaning-closed c id s.kinds was there rec (record_looks c id rec).held (idle c rec refl) idles;
       none = λ at. decided_by-put c at id rec s.kinds ∙ ap option_to_list (settled_already c id was rec s there refl (ap was_decided_state from) at);
     }
@@ -170,15 +184,15 @@ module _ (c : Content) (s : IsSound c) (id : TxnId) (was : Record) (there : reco
         rec : Record
         rec = moved state.Applied None None was
 
-        all_passed : (w : Record) (revnos : List ℤ) → record_at c id ≡ Some w → w.state ≡ state.Applying → w.revnos ≡ Some revnos → rec.state ≡ state.Applied → AllPassed c w.ops revnos
+        all_passed : (w : Record) (revnos : List ℤ) → record_at c id ≡ Some w → w.state ≡ state.Applying → w.revnos ≡ Some revnos → rec.state ≡ state.Applied → AllPassed (look c) w.ops revnos
         all_passed w revnos t applies n applied =
             let same : was ≡ w = same_Some was w (sym there ∙ t) in
             let numbers_of : numbers ≡ revnos = same_Some _ _ (sym numbered ∙ ap (λ (r : Record). r.revnos) same ∙ n) in
-            subst (AllPassed c w.ops) numbers_of (subst (λ (r : Record). AllPassed c r.ops numbers) same passed)
+            subst (AllPassed (look c) w.ops) numbers_of (subst (λ (r : Record). AllPassed (look c) r.ops numbers) same passed)
 
 -- An applying record whose operations have passed is applied.
 pub close_quiet : (c : Content) (id : TxnId) → IsSound c
-    → ((rec : Record) (revnos : List ℤ) → record_at c id ≡ Some rec → rec.state ≡ state.Applying → rec.revnos ≡ Some revnos → AllPassed c rec.ops revnos)
+    → ((rec : Record) (revnos : List ℤ) → record_at c id ≡ Some rec → rec.state ≡ state.Applying → rec.revnos ≡ Some revnos → AllPassed (look c) rec.ops revnos)
     → IsQuiet c (edited c (name.Record id) (edit.Move state.Applying state.Applied None None))
 close_quiet c id s passed = by_move c id state.Applying state.Applied None None (IsQuiet c) (quiet_itself c s) (λ was there from. at was there from (some_revnos was there from)) (get c (name.Record id)) refl
   where

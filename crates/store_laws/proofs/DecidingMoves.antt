@@ -1,6 +1,6 @@
 -- The two moves that decide: a ready prepared record starts to apply where its tests hold, and is
 -- refused where one fails.
-use Rattle.std.proofs.Common.{◌≡◌, ℕ, ℤ, true, false, cond, ◌&&◌, not, Some, None, List, sym, ap, ◌∙◌, refl, subst}
+use Rattle.std.proofs.Common.{◌≡◌, ℕ, ℤ, true, false, cond, ◌&&◌, not, Some, None, List, inl, sym, ap, ◌∙◌, refl, subst}
 use Rattle.std.specs.Prelude.{option_to_list}
 use Rattle.std.specs.FinMap.{insert}
 use Rattle.txn_key.specs.declared.id.TxnId.{TxnId}
@@ -43,7 +43,11 @@ use Rattle.store_laws.proofs.Chains.{fresh_begun, stands_begun}
 use Rattle.store_laws.proofs.Orderly.{orderly}
 use Rattle.store_laws.proofs.SoundParts.{sound_put_record}
 use Rattle.store_laws.proofs.Done.{done_put}
+use Rattle.store_laws.proofs.Entries.{stays_put_record}
+use Rattle.store_laws.proofs.Marks.{apart_in_state}
+use Rattle.store_laws.proofs.Lookups
 use Rattle.store_laws.proofs.Views.{chosen_at, decided_at}
+use Rattle.store_laws.proofs.Parts.{parts}
 
 -- a prepared record that comes to be decided is the one decision
 newly : (c : Content) (at : ℕ) (rec : Record) → was_decided (look c) rec.id ≡ false → was_decided_state rec.state ≡ true → newly_chosen c at rec ≡ Some (entry_at at rec)
@@ -79,7 +83,8 @@ module _ (c : Content) (id : TxnId) (was : Record) (s : IsSound c) (there : reco
     pub apply_decides : tests was.ops (meaning c) ≡ true → Applies c (edited c (name.Record id) (edit.Move state.Prepared state.Applying None (Some revnos))) (moved state.Applying None (Some revnos) was)
     unfolding look
     apply_decides tested = subst (λ (d : Content). Applies c d rec) (sym (moves_there c id state.Prepared state.Applying None (Some revnos) was there from)) (record {
-      step = record { sound = sound; later = step.later; lost = lost_moved id was rec (record_looks c id rec) there (goes_applying was revnos (stored_numbers c id was s there) from); done = done_put c id rec (λ w revnos t applies numbers applied. absurd (cc applied)) };
+      step = record { sound = sound; later = step.later; lost = lost_moved id was rec (record_looks c id rec) there (goes_applying was revnos (stored_numbers c id was s there) from); done = done_put c id rec (λ w revnos t applies numbers applied. absurd (cc applied)); cells = stays_put_record c id rec };
+      entry = λ key. inl (Lookups.stash_at-put_record c (cell.Record rec) id key);
       decides = record { before = unchosen_yet; now = ap (record_at d) (sym (own_id c id was s there)) ∙ put_here id rec (record_looks c id rec).puts; state = refl };
       tested = tested;
       means = meaning-applied c id s.kinds was there rec (record_looks c id rec).held (idle c was (ap (same_state state.Applying) from)) fresh free_keys;
@@ -96,13 +101,14 @@ module _ (c : Content) (id : TxnId) (was : Record) (s : IsSound c) (there : reco
         step = apply_step id was revnos (orderly c s) (record_looks c id rec) there from ready
 
         sound : IsSound d
-        sound = sound_put_record c id rec s step (kept_id c id was s there) (numbered_applying was revnos from chain.in_turn chain.within (stored_numbers c id was s there)) (s.record_nonces id was there) (λ applies. (stands, fitting tested))
+        sound = sound_put_record c id rec s step (kept_id c id was s there) (numbered_applying was revnos from chain.in_turn chain.within (stored_numbers c id was s there)) ((parts c s).record_nonces id was there) (apart_in_state c id was state.Prepared there from (λ e. cc e)) (λ applies. (stands, fitting tested))
 
   -- Where a test fails, the move to aborting is the one decision, and the meaning stays.
   pub abort_decides : tests was.ops (meaning c) ≡ false → Aborts c (edited c (name.Record id) (edit.Move state.Prepared state.Aborting None None)) (moved state.Aborting None None was)
   unfolding look
   abort_decides failed = subst (λ (d : Content). Aborts c d rec) (sym (moves_there c id state.Prepared state.Aborting None None was there from)) (record {
-    step = record { sound = sound; later = step.later; lost = lost_moved id was rec (record_looks c id rec) there (goes_plainly was state.Prepared state.Aborting from refl); done = done_put c id rec (λ w revnos t applies numbers applied. absurd (cc applied)) };
+    step = record { sound = sound; later = step.later; lost = lost_moved id was rec (record_looks c id rec) there (goes_plainly was state.Prepared state.Aborting from refl); done = done_put c id rec (λ w revnos t applies numbers applied. absurd (cc applied)); cells = stays_put_record c id rec };
+    entry = λ key. inl (Lookups.stash_at-put_record c (cell.Record rec) id key);
     decides = record { before = unchosen_yet; now = ap (record_at d) (sym (own_id c id was s there)) ∙ put_here id rec (record_looks c id rec).puts; state = refl };
     failed = failed;
     means = meaning-put c id rec s.kinds (record_looks c id rec).held (in_place c id was rec there (idle c rec refl ∙ sym (idle c was (ap (same_state state.Applying) from))));
@@ -119,4 +125,4 @@ module _ (c : Content) (id : TxnId) (was : Record) (s : IsSound c) (there : reco
       step = abort_step id was (orderly c s) (record_looks c id rec) there from ready
 
       sound : IsSound d
-      sound = sound_put_record c id rec s step (kept_id c id was s there) (numbered_as was state.Prepared state.Aborting from refl refl (stored_numbers c id was s there)) (s.record_nonces id was there) (λ applies. absurd (cc applies))
+      sound = sound_put_record c id rec s step (kept_id c id was s there) (numbered_as was state.Prepared state.Aborting from refl refl (stored_numbers c id was s there)) ((parts c s).record_nonces id was there) (apart_in_state c id was state.Prepared there from (λ e. cc e)) (λ applies. absurd (cc applies))

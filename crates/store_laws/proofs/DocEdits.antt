@@ -1,5 +1,5 @@
 -- Nonces drawn and tokens added: nothing is decided, and nobody waits for less.
-use Rattle.std.proofs.Common.{le_of_eq, negsuc, option_to_list, ◌≡◌, ◌≢◌, ℕ, ◌≤◌, ◌<◌, ◌+◌, nat_lt, Bool, true, false, cond, Option, Some, None, List, [], ◌++◌, ⊎_elim, sym, ap, ◌∙◌, refl, subst, arith}
+use Rattle.std.proofs.Common.{le_of_eq, negsuc, option_to_list, ◌≡◌, ◌≢◌, ℕ, ◌≤◌, ◌<◌, ◌+◌, nat_lt, Bool, true, false, cond, Option, Some, None, List, [], ◌++◌, inl, ⊎_elim, sym, ap, ◌∙◌, refl, subst, arith}
 use Rattle.std.specs.Option.{option_and_then, unwrap_or}
 use Rattle.std.specs.FinMap.{get, insert}
 use Rattle.txn_key.specs.declared.id.Token.{Token}
@@ -14,7 +14,7 @@ use Rattle.store_laws.specs.View.{look, doc_at, stash_at, Number, owner_queue, o
 use Rattle.store_trait.specs.declared.cell.Cell.{Cell}
 use Rattle.store_trait.specs.declared.cell.Cell.TheVariants as cell
 use Rattle.store_trait.specs.declared.cell.DocCell.{DocCell}
-use Rattle.store_trait.specs.Owners.{owner_of}
+use Rattle.store_trait.specs.Owners.{owner_of, epoch}
 use Rattle.store_trait.specs.declared.cell.StashCell.{StashCell}
 use Rattle.store_trait.specs.declared.side.Side.{Side}
 use Rattle.store_trait.specs.declared.side.Side.TheVariants as side
@@ -34,9 +34,14 @@ use Rattle.store_laws.proofs.Misses.{quiet_itself}
 use Rattle.store_laws.proofs.Orderly.{orderly}
 use Rattle.store_laws.proofs.Records.{records-put_other}
 use Rattle.store_laws.proofs.SoundParts.{sound_from, sound_chains, chains_same}
-use Rattle.store_laws.proofs.Done.{done_nonce, done_put_doc}
-use Rattle.store_laws.specs.Done.{StaysDone, progress_of}
+use Rattle.store_laws.proofs.Done.{done_still, stands_on}
+use Rattle.store_laws.proofs.Entries.{cells_stay, leaves_put_doc, stays_put_nonce}
+use Rattle.store_laws.proofs.Marks.{same_owner, marks_put_nonce, marks_put_queue}
+use Rattle.store_laws.proofs.Lookups
+use Rattle.store_laws.proofs.Under.{doc_under}
+use Rattle.store_laws.specs.Entries.{stash_epoch}
 use Rattle.store_laws.proofs.Writes.{count_step}
+use Rattle.store_laws.proofs.Parts.{parts, HasMarksAt}
 
 -- The counter.
 
@@ -44,11 +49,13 @@ counted : (c : Content) (next : ℕ) → IsSound c → counter c ≤ next → op
 unfolding look
 counted c next s le none = record {
   step = record {
-    sound = sound_from d (cells_put_nonce c next (sound_cells c s) step.later) step.orderly (chains_same c d (sound_chains c s) change.records.records change.held);
+    sound = sound_from d (cells_put_nonce c next (sound_cells c s) step.later) step.orderly (marks_put_nonce c next s change) (chains_same c d (sound_chains c s) change.records.records change.held);
     later = step.later;
     lost = lost_same change.records change.queues;
-    done = done_nonce c next;
+    done = done_still change.records (stands_on change.held);
+    cells = stays_put_nonce c next;
   };
+  entry = λ key. inl (Lookups.stash_at-put_nonce c (cell.Nonce next) key);
   means = meaning-same c d same change.held;
   none = λ at. decided_by-same c d at s.kinds same;
 }
@@ -100,30 +107,35 @@ all_below limit doc z was below = λ x inside. ⊎_elim
     (λ mark. was x (in_right x doc.queue (option_to_list doc.remove) mark))
     (in_parts x (with_token z doc.queue) (option_to_list doc.remove) inside)
 
--- a document in whose place there was no record, and that leaves what is held
-pub put_doc_quiet : (c : Content) (key : Key) (doc : DocCell) → IsSound c → IsOrderlyStep (look c) (look (put c key doc)) → NothingLost (look c) (look (put c key doc)) → SameHeld (look c) (look (put c key doc)) → StaysDone c (put c key doc) → is_numbered (cell.Doc doc) ≡ true
-    → HasSoundTokens (look c) key doc.queue (tokens_of_doc doc) → AllBelow (counter c) (tokens_of_doc doc) → option_and_then as_record (get c (name.Doc key)) ≡ None → IsQuiet c (put c key doc)
+-- A document is put where there was one, and what is held stays.
+pub record IsPutUnseen (c : Content) (key : Key) (was doc : DocCell) : Type 0 where
+  pub there : doc_at c key ≡ Some was
+  pub step : IsOrderlyStep (look c) (look (put c key doc))
+  pub lost : NothingLost (look c) (look (put c key doc))
+  pub held : SameHeld (look c) (look (put c key doc))
+  pub marks : (k : Key) → HasMarksAt (put c key doc) k
+  pub behind : (mark : Token) → was.remove ≡ Some mark → epoch was.revno < stash_epoch c key
+
+pub put_unseen_quiet : (c : Content) (key : Key) (was doc : DocCell) → IsSound c → IsPutUnseen c key was doc → is_numbered (cell.Doc doc) ≡ true
+    → HasSoundTokens (look c) key doc.queue (tokens_of_doc doc) → AllBelow (counter c) (tokens_of_doc doc) → IsQuiet c (put c key doc)
 unfolding look
-put_doc_quiet c key doc s step lost held done numbered tokens below none = record {
+put_unseen_quiet c key was doc s unseen numbered tokens below = record {
   step = record {
-    sound = sound_from (put c key doc) (cells_put_doc c key doc (sound_cells c s) step.later numbered tokens below) step.orderly (chains_same c (put c key doc) (sound_chains c s) (doc_records c key doc).records held);
-    later = step.later;
-    lost = lost;
-    done = done;
+    sound = sound_from (put c key doc) (cells_put_doc c key doc (sound_cells c s) unseen.step.later numbered tokens below) unseen.step.orderly unseen.marks (chains_same c (put c key doc) (sound_chains c s) (doc_records c key doc).records unseen.held);
+    later = unseen.step.later;
+    lost = unseen.lost;
+    done = done_still (doc_records c key doc) (stands_on unseen.held);
+    cells = cells_stay (leaves_put_doc c key was doc unseen.there unseen.behind);
   };
-  means = meaning-same c (put c key doc) same held;
+  entry = λ k. inl (Lookups.stash_at-put_doc c (cell.Doc doc) key k);
+  means = meaning-same c (put c key doc) same unseen.held;
   none = λ at. decided_by-same c (put c key doc) at s.kinds same;
 }
   where
     same : records (put c key doc) ≡ records c
-    same = records-put_other c (name.Doc key) (cell.Doc doc) refl none
+    same = records-put_other c (name.Doc key) (cell.Doc doc) refl (ap (option_and_then as_record) (doc_under c key was unseen.there))
 
 -- A token.
-
--- a longer queue changes no owner
-same_owner : (doc : DocCell) (queue : List Token) (stash : Option StashCell) → owner_of (Some (record doc { queue = queue })) stash ≡ owner_of (Some doc) stash
-same_owner doc queue None = refl
-same_owner doc queue (Some stash) = refl
 
 record Added (c : Content) (key : Key) (doc : DocCell) : Type 0 where
   step : IsOrderlyStep (look c) (look (put c key doc))
@@ -163,10 +175,13 @@ added_look c key doc z s there has other = go (owner_of (Some doc) (stash_at c k
     go side.Document e = seen (doc_queues c key new z (now side.Document e ∙ ap (with_token z) (sym (was side.Document e))) holds)
 
 module _ (c : Content) (key : Key) (z : Token) (s : IsSound c) (has : HasKey (look c) z.id key) (below : z.nonce < counter c) (other : valid_nonce (look c) z.id ≢ Some z.nonce) where
-  added : (doc : DocCell) → doc_at c key ≡ Some doc → option_and_then as_record (get c (name.Doc key)) ≡ None → is_numbered (cell.Doc doc) ≡ true → IsQuiet c (put c key (record doc { queue = with_token z doc.queue }))
-  added doc there none numbered =
-      let look_ = added_look c key doc z s there has other in
-      put_doc_quiet c key (record doc { queue = with_token z doc.queue }) s look_.step look_.lost look_.held (done_put_doc c key (record doc { queue = with_token z doc.queue }) (le_of_eq (ap (λ (d : Option DocCell). progress_of d (stash_at c key)) there))) numbered (with_tokens c key doc z (s.doc_tokens key doc there) has) (all_below (counter c) doc z (s.doc_nonces key doc there) below) none
+  added : (doc : DocCell) → doc_at c key ≡ Some doc → doc.remove ≡ None → is_numbered (cell.Doc doc) ≡ true → IsQuiet c (put c key (record doc { queue = with_token z doc.queue }))
+  unfolding look
+  added doc there free numbered =
+      let seen = added_look c key doc z s there has other in
+      put_unseen_quiet c key doc (record doc { queue = with_token z doc.queue }) s
+      (record { there = there; step = seen.step; lost = seen.lost; held = seen.held; marks = marks_put_queue c key doc (with_token z doc.queue) s there (seen.held.held key); behind = λ mark marked. absurd (cc (free, marked)) })
+      numbered (with_tokens c key doc z ((parts c s).doc_tokens key doc there) has) (all_below (counter c) doc z ((parts c s).doc_nonces key doc there) below)
 
   adds_at : (found : Option Cell) → get c (name.Doc key) ≡ found → IsQuiet c (put_under c (name.Doc key) (hit_add_token z (name.Doc key) found))
   unfolding doc_at
@@ -174,11 +189,11 @@ module _ (c : Content) (key : Key) (z : Token) (s : IsSound c) (has : HasKey (lo
   adds_at (Some (cell.Record rec)) e = quiet_itself c s
   adds_at (Some (cell.Stash stash)) e = quiet_itself c s
   adds_at (Some (cell.Nonce n)) e = quiet_itself c s
-  adds_at (Some (cell.Doc doc)) e = go doc.remove
+  adds_at (Some (cell.Doc doc)) e = go doc.remove refl
     where
-      go : (mark : Option Token) → IsQuiet c (put_under c (name.Doc key) (unmarked mark (puts (cell.Doc (record doc { queue = with_token z doc.queue })))))
-      go (Some mark) = quiet_itself c s
-      go None = added doc (ap (option_and_then as_doc) e) (ap (option_and_then as_record) e) (s.numbers (name.Doc key) (cell.Doc doc) e)
+      go : (mark : Option Token) → doc.remove ≡ mark → IsQuiet c (put_under c (name.Doc key) (unmarked mark (puts (cell.Doc (record doc { queue = with_token z doc.queue })))))
+      go (Some mark) marked = quiet_itself c s
+      go None free = added doc (ap (option_and_then as_doc) e) free ((parts c s).numbers (name.Doc key) (cell.Doc doc) e)
 
   -- Adding a token decides nothing: one that was drawn, of a present record that has the key and
   -- doesn't have that nonce yet.

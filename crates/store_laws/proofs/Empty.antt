@@ -10,14 +10,16 @@ use Rattle.store_trait.specs.Cells.{as_record, as_doc, as_stash}
 use Rattle.store_trait.specs.Contents.{Content}
 use Rattle.store_laws.specs.Meaning.{meaning, owned_body, pending_of}
 use Rattle.store_trait.specs.Names.{name_cmp}
-use Rattle.store_laws.specs.Readiness.{In}
-use Rattle.store_laws.specs.Soundness.{IsSound}
-use Rattle.store_laws.specs.View.{look, record_at, doc_at, stash_at, owner_queue, was_prepared}
+use Rattle.store_laws.specs.Readiness.{In, IsReady, Sealed}
+use Rattle.store_laws.specs.Soundness.{IsSound, Rule, Holds, IsInQueues, IfApplying, StandsOnChain, PendingFits}
+use Rattle.store_laws.specs.View.{look, record_at, doc_at, stash_at, owner_queue, was_prepared, was_decided, applying}
 use Rattle.store_trait.specs.declared.cell.Cell.{Cell}
 use Rattle.store_trait.specs.declared.name.Name.{Name}
 use Rattle.store_trait.specs.declared.name.Name.TheVariants as name
 use Rattle.store_laws.specs.Alone.{IsAtRest}
 use Rattle.store_laws.proofs.Views.{present_decided, decided_if_chosen, chosen_if_applying}
+use Rattle.store_laws.proofs.Parts.{HasMarksAt}
+use Rattle.store_laws.proofs.SoundParts.{at_record, marks_by_name, entries_by_name}
 
 abbrev pub nothing : Content
 nothing = empty
@@ -41,22 +43,28 @@ none_decided : (id : TxnId) → was_prepared (look nothing) id ≡ true → ⊥
 unfolding look
 none_decided id d = let (rec, there, state) = present_decided (look nothing) id d in cc (no_record id, there)
 
-pub empty_sound : IsSound nothing
-unfolding look
-empty_sound = record {
-  kinds = λ n x found. absurd (cc (none_under n, found));
-  numbers = λ n x found. absurd (cc (none_under n, found));
-  doc_tokens = λ key doc found. absurd (cc (no_doc key, found));
-  stash_tokens = λ key stash found. absurd (cc (no_stash key, found));
-  doc_nonces = λ key doc found. absurd (cc (no_doc key, found));
-  stash_nonces = λ key stash found. absurd (cc (no_stash key, found));
-  record_nonces = λ id rec found. absurd (cc (no_record id, found));
-  queued = λ id rec nonce key found waits some on. absurd (cc (no_record id, found));
-  ready = λ id applies. absurd (none_decided id (decided_if_chosen (look nothing) id (chosen_if_applying (look nothing) id applies)));
-  sealed = λ id chose. absurd (none_decided id (decided_if_chosen (look nothing) id chose));
-  on_chain = λ id rec found applies. absurd (cc (no_record id, found));
-  fits = λ id rec found applies. absurd (cc (no_record id, found));
+no_marks : (key : Key) → HasMarksAt nothing key
+no_marks key = record {
+  of_doc = λ d mark found marked owns. absurd (cc (no_doc key, found));
+  of_stash = λ e mark found marked owns. absurd (cc (no_stash key, found));
+  entry = λ e found. absurd (cc (no_stash key, found));
 }
+
+no_rule_fails : (rule : Rule) (n : Name) → Holds rule nothing n
+unfolding look
+no_rule_fails Rule.Numbers n = λ x found. absurd (cc (none_under n, found))
+no_rule_fails Rule.Tokens n = λ x found. absurd (cc (none_under n, found))
+no_rule_fails Rule.Nonces n = λ x found. absurd (cc (none_under n, found))
+no_rule_fails Rule.InQueues n = at_record (IsInQueues nothing) (λ id rec nonce key found waits some on. absurd (cc (no_record id, found))) n
+no_rule_fails Rule.AppliesReady n = at_record (λ id. applying (look nothing) id ≡ true → IsReady (look nothing) id) (λ id applies. absurd (none_decided id (decided_if_chosen (look nothing) id (chosen_if_applying (look nothing) id applies)))) n
+no_rule_fails Rule.DecidedSealed n = at_record (λ id. was_decided (look nothing) id ≡ true → Sealed (look nothing) id) (λ id chose. absurd (none_decided id (decided_if_chosen (look nothing) id chose))) n
+no_rule_fails Rule.Marks n = marks_by_name nothing no_marks n
+no_rule_fails Rule.Entries n = entries_by_name nothing no_marks n
+no_rule_fails Rule.OnChain n = at_record (IfApplying nothing (StandsOnChain (look nothing))) (λ id rec found applies. absurd (cc (no_record id, found))) n
+no_rule_fails Rule.Fits n = at_record (IfApplying nothing (PendingFits nothing)) (λ id rec found applies. absurd (cc (no_record id, found))) n
+
+pub empty_sound : IsSound nothing
+empty_sound = record { kinds = λ n x found. absurd (cc (none_under n, found)); rules = no_rule_fails }
 
 pub empty_rests : IsAtRest (look nothing)
 unfolding look

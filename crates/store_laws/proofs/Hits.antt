@@ -26,10 +26,9 @@ use Rattle.store_laws.specs.Hits.{HasInserted, HasMoved, HasAdded, HasUpdated, H
 use Rattle.store_laws.proofs.KindsOfMove.{same_states}
 use Rattle.store_laws.specs.Soundness.{IsSound}
 use Rattle.store_laws.proofs.Misses.{same_itself}
-use Rattle.store_laws.proofs.Orderly.{record_under}
-use Rattle.store_laws.proofs.Owning.{doc_under}
 use Rattle.store_laws.proofs.Local.{put_there}
 use Rattle.store_laws.proofs.Lookups.{counter-put_nonce}
+use Rattle.store_laws.proofs.Under.{record_under, doc_under}
 
 -- what stands under a name once a hit was put there
 now_there : (c : Content) (n : Name) (x : Cell) → get (insert c n x) n ≡ Some x

@@ -63,3 +63,10 @@ pub mod Owners
 pub mod Equals
 pub mod PlainEdits
 pub mod Resting
+pub mod Under
+pub mod Parts
+pub mod Entries
+pub mod Marks
+pub mod OneEffect
+pub mod Applying
+pub mod Late

@@ -1,5 +1,5 @@
 -- A call that leaves the content as it was, and what an edit left where it hit.
-use Rattle.std.proofs.Common.{◌≡◌, ℕ, ℤ, Bool, true, false, cond, Option, Some, None, is_some, List, ap, ◌∙◌, refl}
+use Rattle.std.proofs.Common.{◌≡◌, ℕ, ℤ, Bool, true, false, cond, Option, Some, None, is_some, List, inl, ap, ◌∙◌, refl}
 use Rattle.std.specs.FinMap.{get, insert}
 use Rattle.std.specs.Option.{option_and_then}
 use Rattle.txn_key.specs.declared.id.TxnId.{TxnId}
@@ -20,14 +20,15 @@ use Rattle.store_trait.specs.declared.edit.Edit.TheVariants as edit
 use Rattle.store_trait.specs.declared.name.Name.{Name}
 use Rattle.store_trait.specs.declared.name.Name.TheVariants as name
 use Rattle.store_laws.proofs.Done.{done_itself}
+use Rattle.store_laws.proofs.Entries.{cells_stay, leaves_cells}
 use Rattle.store_laws.proofs.Later.{later_itself}
 use Rattle.store_laws.proofs.Lost.{lost_itself}
 use Rattle.store_laws.proofs.KindsOfMove.{same_states}
 use Rattle.store_laws.proofs.Decided.{decided_by-same}
-use Rattle.store_laws.proofs.Orderly.{record_under}
+use Rattle.store_laws.proofs.Under.{record_under}
 
 pub quiet_itself : (c : Content) → IsSound c → IsQuiet c c
-quiet_itself c s = record { step = record { sound = s; later = later_itself (look c); lost = lost_itself (look c); done = done_itself c }; means = refl; none = λ at. decided_by-same c c at s.kinds refl }
+quiet_itself c s = record { step = record { sound = s; later = later_itself (look c); lost = lost_itself (look c); done = done_itself (look c); cells = cells_stay (leaves_cells (λ key. refl) (λ key. refl)) }; entry = λ key. inl refl; means = refl; none = λ at. decided_by-same c c at s.kinds refl }
 
 missed : (c : Content) (n : Name) (h : Hit) → is_some h ≡ false → put_under c n h ≡ c
 missed c n None e = refl

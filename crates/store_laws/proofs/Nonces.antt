@@ -29,6 +29,7 @@ use Rattle.store_laws.proofs.Views.{valid_nonce_of}
 use Rattle.store_trait.specs.Contents.{Content}
 use Rattle.store_laws.specs.Soundness.{IsSound, is_numbered_record}
 use Rattle.store_laws.specs.View.{look, record_at, counter, valid_nonce, nonce_if_prepared}
+use Rattle.store_laws.proofs.Parts.{parts}
 
 nonce_kept : (rec : Record) (nonce : ℕ) → nonce_if_prepared rec ≡ Some nonce → rec.nonce ≡ Some nonce
 nonce_kept rec nonce = go (was_prepared_state rec.state)
@@ -48,7 +49,7 @@ below_at limit nonce (Some rec) below e = kept_below limit nonce rec.nonce (belo
 -- the nonce of a prepared record was drawn
 pub nonce_below : (c : Content) (id : TxnId) (nonce : ℕ) → IsSound c → valid_nonce (look c) id ≡ Some nonce → nonce < counter c
 unfolding look valid_nonce
-nonce_below c id nonce s e = below_at (counter c) nonce (record_at c id) (s.record_nonces id) e
+nonce_below c id nonce s e = below_at (counter c) nonce (record_at c id) ((parts c s).record_nonces id) e
 
 -- a preparing record has none
 pub preparing_none : (c : Content) (id : TxnId) (rec : Record) → record_at c id ≡ Some rec → rec.state ≡ state.Preparing → valid_nonce (look c) id ≡ None

@@ -1,5 +1,5 @@
 -- What a change makes of a number, and of a body that is there just where the number says so.
-use Rattle.std.proofs.Common.{◌≡◌, ℕ, zero, suc, ◌+◌, ◌≤◌, le_refl, Bool, true, false, not, Option, Some, None, is_some, ◌⊎◌, inl, inr, sym, ap, ◌∙◌, refl, subst, unsigned_abs, ℤ, pos, negsuc, if◌then◌else◌, arith, true≢false}
+use Rattle.std.proofs.Common.{◌≡◌, ℕ, zero, suc, ◌+◌, ◌≤◌, le_refl, Bool, true, false, not, Option, Some, None, is_some, ◌⊎◌, inl, inr, sym, ap, ◌∙◌, refl, subst, unsigned_abs, ℤ, ◌+ℤ◌, pos, negsuc, if◌then◌else◌, arith, true≢false}
 use Rattle.std.proofs.lemmas.Bool.Decides.{nat_tests}
 use Rattle.doc_value.specs.declared.value.Value.{Value}
 use Rattle.txn_record.specs.Effects.{body_after, change_fits}
@@ -41,6 +41,13 @@ after_above ch n = by (after_rises ch n)
     by : (number_after ch n ≡ n) ⊎ (unsigned_abs (number_after ch n) ≡ unsigned_abs n + 1) → unsigned_abs n ≤ unsigned_abs (number_after ch n)
     by (inl e) = subst (λ (m : ℤ). unsigned_abs n ≤ unsigned_abs m) (sym e) (le_refl _)
     by (inr e) = subst (λ (m : ℕ). unsigned_abs n ≤ m) (sym e) (omega arith)
+
+-- an update counts on from a number that says that its document is there
+pub update_acts : (ch : Change) (update : Value) (n : ℤ) → ch ≡ change.Update update → is_present n ≡ true → has_effect ch n ≡ true
+update_acts ch update n e present = ap (λ (ch : Change). has_effect ch n) e ∙ present
+
+pub update_leads : (ch : Change) (update : Value) (n : ℤ) → ch ≡ change.Update update → is_present n ≡ true → number_after ch n ≡ n +ℤ pos 1
+update_leads ch update n e present = ap (λ (ch : Change). number_after ch n) e ∙ ap (λ (b : Bool). if b then n +ℤ pos 1 else n) present
 
 -- Bodies.
 

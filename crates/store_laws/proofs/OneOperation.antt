@@ -24,10 +24,11 @@ use Rattle.store_trait.specs.declared.side.Side.{Side}
 use Rattle.store_trait.specs.declared.side.Side.TheVariants as side
 use Rattle.store_laws.proofs.DecidingMoves.{free_keys}
 use Rattle.store_laws.proofs.Effects.{meaning-free}
-use Rattle.store_laws.proofs.Owning.{doc_under, stash_under}
 use Rattle.store_laws.proofs.Runs.{same_key-itself}
 use Rattle.store_laws.specs.Chains.{IsChainFrom}
 use Rattle.store_laws.specs.Holding.{body_in}
+use Rattle.store_laws.proofs.Parts.{parts}
+use Rattle.store_laws.proofs.Under.{doc_under, stash_under}
 
 and_ends : (holds fits : Bool) → ((holds && true) && (fits && true)) ≡ (holds && fits)
 and_ends true true = refl
@@ -64,8 +65,8 @@ within_held doc stash docs stashes = by (owner_of doc stash)
 pub within_owner : (c : Content) → IsSound c → (key : Key) → is_within (held_number ((look c).held_at key)) ≡ true
 unfolding look
 within_owner c s key = within_held (doc_at c key) (stash_at c key)
-    (λ d e. (and_parts _ _ (s.numbers (name.Doc key) (cell.Doc d) (doc_under c key d e))).1)
-    (λ x e. (and_parts _ _ (s.numbers (name.Stash key) (cell.Stash x) (stash_under c key x e))).1)
+    (λ d e. (and_parts _ _ ((parts c s).numbers (name.Doc key) (cell.Doc d) (doc_under c key d e))).1)
+    (λ x e. (and_parts _ _ ((parts c s).numbers (name.Stash key) (cell.Stash x) (stash_under c key x e))).1)
 
 -- the chain of one operation is the owner's number, where the next one is within the limits
 pub chain_one : (c : Content) (op : Op) → IsSound c → is_within (number_after op.change (held_number ((look c).held_at op.key))) ≡ true

@@ -24,7 +24,9 @@ use Rattle.store_trait.specs.declared.cell.StashCell.{StashCell}
 use Rattle.store_trait.specs.declared.name.Name.TheVariants as name
 use Rattle.store_trait.specs.declared.side.Side.{Side}
 use Rattle.store_trait.specs.declared.side.Side.TheVariants as side
+use Rattle.store_laws.proofs.Parts.{parts}
 use Rattle.store_laws.proofs.Queues.{in_left}
+use Rattle.store_laws.proofs.Under.{record_under}
 
 pub record IsOrderly (view : View) : Type 0 where
   -- a token in an owner queue is of a present record that has the key
@@ -51,19 +53,6 @@ in_stash : (view : View) (key : Key) (found : Option StashCell) → ((stash : St
 in_stash view key None sound x h = absurd h
 in_stash view key (Some stash) sound x h = (sound stash refl).named x (in_left x stash.queue (option_to_list stash.insert) h)
 
--- a record that was found is under its name
-
-found_record : (found : Option Cell) (rec : Record) → option_and_then as_record found ≡ Some rec → found ≡ Some (cell.Record rec)
-found_record None rec e = cc
-found_record (Some (cell.Record r)) rec e = ap (λ (r : Record). Some (cell.Record r)) (same_Some r rec e)
-found_record (Some (cell.Doc _)) rec e = cc
-found_record (Some (cell.Stash _)) rec e = cc
-found_record (Some (cell.Nonce _)) rec e = cc
-
-pub record_under : (c : Content) (id : TxnId) (rec : Record) → record_at c id ≡ Some rec → get c (name.Record id) ≡ Some (cell.Record rec)
-unfolding record_at
-record_under c id rec there = found_record (get c (name.Record id)) rec there
-
 agreed : (b : Bool) (s : State) → agree b (not (same_state s state.Preparing)) ≡ true → was_prepared_state s ≡ true → b ≡ true
 agreed true s e d = refl
 agreed false state.Preparing e d = d
@@ -82,9 +71,9 @@ numbered_nonce rec e d = agreed (is_some rec.nonce) rec.state (nonce_agrees rec 
 pub orderly : (c : Content) → IsSound c → IsOrderly (look c)
 unfolding look
 orderly c sound = record {
-  named = λ key x h. ⊎_elim (in_doc (look c) key (doc_at c key) (sound.doc_tokens key) x) (in_stash (look c) key (stash_at c key) (sound.stash_tokens key) x) (in_either x (owner_of (doc_at c key) (stash_at c key)) (doc_queue (doc_at c key)) (stash_queue (stash_at c key)) h);
-  drawn = λ id rec there d. numbered_nonce rec (sound.numbers (name.Record id) (cell.Record rec) (record_under c id rec there)) d;
-  queued = sound.queued;
-  ready = sound.ready;
-  sealed = sound.sealed;
+  named = λ key x h. ⊎_elim (in_doc (look c) key (doc_at c key) ((parts c sound).doc_tokens key) x) (in_stash (look c) key (stash_at c key) ((parts c sound).stash_tokens key) x) (in_either x (owner_of (doc_at c key) (stash_at c key)) (doc_queue (doc_at c key)) (stash_queue (stash_at c key)) h);
+  drawn = λ id rec there d. numbered_nonce rec ((parts c sound).numbers (name.Record id) (cell.Record rec) (record_under c id rec there)) d;
+  queued = (parts c sound).queued;
+  ready = (parts c sound).ready;
+  sealed = (parts c sound).sealed;
 }

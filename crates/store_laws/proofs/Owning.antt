@@ -20,6 +20,8 @@ use Rattle.store_trait.specs.declared.name.Name.TheVariants as name
 use Rattle.store_trait.specs.declared.side.Side.{Side}
 use Rattle.store_trait.specs.declared.side.Side.TheVariants as side
 use Rattle.store_laws.proofs.Bodies.{body_in}
+use Rattle.store_laws.proofs.Parts.{parts}
+use Rattle.store_laws.proofs.Under.{doc_under, stash_under}
 
 -- numbers
 
@@ -35,30 +37,6 @@ pub next_above : (n : ℤ) → is_present n ≡ true → unsigned_abs n < unsign
 next_above (pos k) e = omega arith
 next_above (negsuc k) e = absurd (true≢false (sym e))
 
--- a cell that was found is under its name
-
-doc_found : (found : Option Cell) (doc : DocCell) → option_and_then as_doc found ≡ Some doc → found ≡ Some (cell.Doc doc)
-doc_found None doc e = cc
-doc_found (Some (cell.Doc other)) doc e = ap (λ (x : DocCell). Some (cell.Doc x)) (same_Some other doc e)
-doc_found (Some (cell.Record _)) doc e = cc
-doc_found (Some (cell.Stash _)) doc e = cc
-doc_found (Some (cell.Nonce _)) doc e = cc
-
-pub doc_under : (c : Content) (key : Key) (doc : DocCell) → doc_at c key ≡ Some doc → get c (name.Doc key) ≡ Some (cell.Doc doc)
-unfolding doc_at
-doc_under c key doc found = doc_found (get c (name.Doc key)) doc found
-
-stash_found : (found : Option Cell) (stash : StashCell) → option_and_then as_stash found ≡ Some stash → found ≡ Some (cell.Stash stash)
-stash_found None stash e = cc
-stash_found (Some (cell.Stash other)) stash e = ap (λ (x : StashCell). Some (cell.Stash x)) (same_Some other stash e)
-stash_found (Some (cell.Record _)) stash e = cc
-stash_found (Some (cell.Doc _)) stash e = cc
-stash_found (Some (cell.Nonce _)) stash e = cc
-
-pub stash_under : (c : Content) (key : Key) (stash : StashCell) → stash_at c key ≡ Some stash → get c (name.Stash key) ≡ Some (cell.Stash stash)
-unfolding stash_at
-stash_under c key stash found = stash_found (get c (name.Stash key)) stash found
-
 -- the owner
 
 -- an owner at a number of 0 or more is the document, where entries stand below 0
@@ -71,6 +49,9 @@ owner_present doc (Some entry) below e = by (nat_lt (epoch doc.revno) (epoch ent
     by true e = absurd (true≢false (sym e ∙ below entry refl))
     by false e = refl
 
+is_less : (a b : ℕ) → a < b → nat_lt a b ≡ true
+is_less a b less = grind (arith, nat_tests)
+
 -- with a greater number it goes on
 pub owner_grows : (doc later : DocCell) (stash : Option StashCell) → unsigned_abs doc.revno ≤ unsigned_abs later.revno → owner_of (Some doc) stash ≡ side.Document → owner_of (Some later) stash ≡ side.Document
 owner_grows doc later None le e = refl
@@ -80,6 +61,34 @@ owner_grows doc later (Some entry) le e = by (nat_lt (unsigned_abs doc.revno) (u
     by true b p q e = absurd (cc e)
     by false false p q e = refl
     by false true p q e = absurd (grind (arith, nat_tests))
+
+-- one of two cells owns the key
+pub owned_by_one : (doc : DocCell) (entry : StashCell) → owner_of (Some doc) (Some entry) ≡ side.Neither → ⊥
+owned_by_one doc entry e = by (nat_lt (epoch doc.revno) (epoch entry.revno)) e
+  where
+    by : (b : Bool) → cond b side.Stash side.Document ≡ side.Neither → ⊥
+    by true e = cc e
+    by false e = cc e
+
+-- an entry beside a document that owns the key is no further
+pub entry_behind : (doc : DocCell) (entry : StashCell) → owner_of (Some doc) (Some entry) ≡ side.Document → epoch entry.revno ≤ epoch doc.revno
+entry_behind doc entry owns = by (nat_lt (epoch doc.revno) (epoch entry.revno)) refl owns
+  where
+    by : (b : Bool) → nat_lt (epoch doc.revno) (epoch entry.revno) ≡ b → cond b side.Stash side.Document ≡ side.Document → epoch entry.revno ≤ epoch doc.revno
+    by true p q = absurd (cc q)
+    by false p q = grind (arith, nat_tests)
+
+-- one beside a document that doesn't is further on
+pub entry_ahead : (doc : DocCell) (entry : StashCell) → owner_of (Some doc) (Some entry) ≡ side.Stash → epoch doc.revno < epoch entry.revno
+entry_ahead doc entry owns = by (nat_lt (epoch doc.revno) (epoch entry.revno)) refl owns
+  where
+    by : (b : Bool) → nat_lt (epoch doc.revno) (epoch entry.revno) ≡ b → cond b side.Stash side.Document ≡ side.Stash → epoch doc.revno < epoch entry.revno
+    by true p q = grind (arith, nat_tests)
+    by false p q = absurd (cc q)
+
+-- and so it owns the key
+pub ahead_owns : (doc : DocCell) (entry : StashCell) → epoch doc.revno < epoch entry.revno → owner_of (Some doc) (Some entry) ≡ side.Stash
+ahead_owns doc entry less = ap (λ (b : Bool). cond b side.Stash side.Document) (is_less (epoch doc.revno) (epoch entry.revno) less)
 
 pub owned_held : (doc : DocCell) (stash : Option StashCell) → owner_of (Some doc) stash ≡ side.Document → owner_held (Some doc) stash ≡ Body doc.revno doc.body
 owned_held doc stash e = ap (λ (s : Side). by_side s (Number (negsuc 0)) (doc_held (Some doc)) (stash_held stash)) e
@@ -94,7 +103,7 @@ not_true true e = absurd (true≢false (sym e))
 not_true false e = refl
 
 pub stash_below : (c : Content) → IsSound c → (key : Key) (entry : StashCell) → stash_at c key ≡ Some entry → is_present entry.revno ≡ false
-stash_below c s key entry there = not_true _ (and_parts (not (is_present entry.revno)) (is_within entry.revno) (s.numbers (name.Stash key) (cell.Stash entry) (stash_under c key entry there))).0
+stash_below c s key entry there = not_true _ (and_parts (not (is_present entry.revno)) (is_within entry.revno) ((parts c s).numbers (name.Stash key) (cell.Stash entry) (stash_under c key entry there))).0
 
 -- an owner at a number of 0 or more is a document at that number
 pub record OwnsAt (c : Content) (key : Key) (number : ℤ) : Type 0 where
@@ -139,5 +148,5 @@ pub held_agrees : (c : Content) → IsSound c → (key : Key) → is_some (body_
 unfolding look
 held_agrees c s key =
     agree_at (doc_at c key) (stash_at c key)
-    (λ d found. (and_parts (is_present d.revno) (is_within d.revno) (s.numbers (name.Doc key) (cell.Doc d) (doc_under c key d found))).0)
+    (λ d found. (and_parts (is_present d.revno) (is_within d.revno) ((parts c s).numbers (name.Doc key) (cell.Doc d) (doc_under c key d found))).0)
     (stash_below c s key)

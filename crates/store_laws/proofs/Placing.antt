@@ -37,6 +37,9 @@ use Rattle.store_laws.proofs.Fitting.{changes_fit-agree}
 use Rattle.store_laws.proofs.Idle.{NoneApplies, pending-at, pending_of-keys, on_pending}
 use Rattle.store_laws.proofs.Equals.{by_key}
 use Rattle.store_laws.proofs.Looks.{put, read_put, doc_records, doc_writes}
+use Rattle.store_laws.proofs.Marks.{marks_put_doc}
+use Rattle.std.proofs.lemmas.Option.{same_Some}
+use Rattle.store_trait.specs.declared.cell.DocCell.{DocCell}
 use Rattle.store_laws.proofs.Meanings.{get-meaning}
 use Rattle.store_laws.proofs.Orderly.{IsOrderly, orderly}
 use Rattle.store_laws.proofs.Records.{records-put_other}
@@ -44,6 +47,7 @@ use Rattle.store_laws.proofs.Runs.{same_docs, run_on, same_key-itself}
 use Rattle.store_laws.proofs.SoundParts.{HasSoundChains, sound_from}
 use Rattle.store_laws.proofs.Views.{waiting_if_applying, applying_at}
 use Rattle.store_laws.proofs.Writes.{place_step}
+use Rattle.store_laws.proofs.Parts.{parts, HasMarksAt}
 
 -- nobody applies on a key where no token waits
 none_waits : {view : View} → IsOrderly view → (key : Key) → view.queue_at key ≡ [] → NoneApplies view key
@@ -87,6 +91,14 @@ module _ (c : Content) (key : Key) (body : Value) (s : IsSound c) (no_doc : get 
   cells : HasSoundCells d
   cells = cells_put_doc c key (new_doc body) (sound_cells c s) step.later refl (record { named = λ x h. absurd h; once = λ x h. absurd h }) (λ x h. absurd h)
 
+  -- an unmarked document alone
+  marks : (k : Key) → HasMarksAt d k
+  marks = marks_put_doc c key (new_doc body) s (record {
+    of_doc = λ x mark there marked owns. absurd (cc (ap (λ (x : DocCell). x.remove) (same_Some (new_doc body) x there), marked));
+    of_stash = λ e mark there marked owns. absurd (cc (no_stash, there));
+    entry = λ e there. absurd (cc (no_stash, there));
+  })
+
   -- no applying record is on the key, so the keys of each hold what they held
   keys_same : (id : TxnId) (rec : Record) → record_at c id ≡ Some rec → IsTrue (same_state state.Applying rec.state) → (k : Key) → IsOn k rec.ops → (look d).held_at k ≡ (look c).held_at k
   unfolding look
@@ -98,8 +110,8 @@ module _ (c : Content) (key : Key) (body : Value) (s : IsSound c) (no_doc : get 
 
   chains : HasSoundChains d
   chains = record {
-    on_chain = λ id rec there applies. chain_keys rec (keys_same id rec (was id rec there) applies) (s.on_chain id rec (was id rec there) applies);
-    fits = λ id rec there applies. fits_keys c d rec (keys_same id rec (was id rec there) applies) (s.fits id rec (was id rec there) applies);
+    on_chain = λ id rec there applies. chain_keys rec (keys_same id rec (was id rec there) applies) ((parts c s).on_chain id rec (was id rec there) applies);
+    fits = λ id rec there applies. fits_keys c d rec (keys_same id rec (was id rec there) applies) ((parts c s).fits id rec (was id rec there) applies);
   }
 
   held_now : (look d).held_at key ≡ Body (pos 0) body
@@ -110,7 +122,7 @@ module _ (c : Content) (key : Key) (body : Value) (s : IsSound c) (no_doc : get 
       ∙ ap (owner_held (Some (new_doc body))) no_stash
 
   here : get (meaning d) key ≡ Some body
-  here = meaning-free d cells.kinds key (none_waits step.orderly key (change.queues.queues key ∙ queue_before)) ∙ ap body_in held_now
+  here = meaning-free d (λ n x found. (cells n x found).stands) key (none_waits step.orderly key (change.queues.queues key ∙ queue_before)) ∙ ap body_in held_now
 
   elsewhere : (k : Key) → k ≢ key → get (meaning d) k ≡ get (meaning c) k
   elsewhere k apart =
@@ -127,7 +139,7 @@ module _ (c : Content) (key : Key) (body : Value) (s : IsSound c) (no_doc : get 
   -- A document placed under a key with no cell.
   pub placed : IsPlaced c (put c key (new_doc body)) key body
   placed = record {
-    sound = sound_from d cells step.orderly chains;
+    sound = sound_from d cells step.orderly marks chains;
     later = step.later;
     means = same_docs (meaning d) (insert (meaning c) key body) (λ k. at_key k ∙ sym (get-insert key_cmp_total (meaning c) key body k));
     none = λ at. decided_by-same c d at s.kinds same_records;

@@ -24,7 +24,7 @@ use Rattle.store_laws.proofs.CellRules.{each_doc}
 use Rattle.store_laws.proofs.Empty.{no_doc, no_stash, nothing}
 use Rattle.store_laws.proofs.Lookups
 use Rattle.store_laws.proofs.Looks.{put}
-use Rattle.store_laws.proofs.UpdateEdits.{by_update}
+use Rattle.store_laws.proofs.Late.{by_update}
 
 pub plain_empty : IsPlain nothing
 plain_empty = record { no_stash = no_stash; unmarked = λ key doc found. absurd (cc (no_doc key, found)) }

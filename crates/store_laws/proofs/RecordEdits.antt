@@ -1,5 +1,5 @@
 -- Records inserted and moved on, where nothing is decided.
-use Rattle.std.proofs.Common.{◌≡◌, ℕ, ◌<◌, Bool, true, false, cond, Option, Some, None, is_some, IfSome, not, ◌&&◌, append-nil, [], sym, ap, ◌∙◌, refl, subst}
+use Rattle.std.proofs.Common.{◌≡◌, ℕ, ◌<◌, Bool, true, false, cond, Option, Some, None, is_some, IfSome, not, ◌&&◌, append-nil, [], inl, sym, ap, ◌∙◌, refl, subst}
 use Rattle.std.specs.Option.{option_and_then}
 use Rattle.std.specs.Prelude.{option_to_list, unwrap_or}
 use Rattle.std.specs.FinMap.{get, insert}
@@ -35,11 +35,16 @@ use Rattle.store_laws.proofs.Meanings.{meaning-put}
 use Rattle.store_laws.proofs.Numbers.{numbered_prepared, numbered_as}
 use Rattle.store_laws.proofs.Misses.{quiet_itself, by_move}
 use Rattle.store_laws.proofs.Moves.{insert_step}
-use Rattle.store_laws.proofs.Orderly.{orderly, record_under, nonce_agrees}
+use Rattle.store_laws.proofs.Orderly.{orderly, nonce_agrees}
 use Rattle.store_laws.proofs.Records.{same_id-equal}
 use Rattle.store_laws.proofs.SoundParts.{sound_put_record}
 use Rattle.store_laws.proofs.Done.{done_put}
+use Rattle.store_laws.proofs.Entries.{stays_put_record}
+use Rattle.store_laws.proofs.Marks.{MarksApart, apart_if_absent, apart_in_state}
+use Rattle.store_laws.proofs.Lookups
 use Rattle.store_laws.proofs.Views.{chosen_at}
+use Rattle.store_laws.proofs.Parts.{parts}
+use Rattle.store_laws.proofs.Under.{record_under}
 
 -- a record that isn't applying has nothing to do
 pub idle : (c : Content) (rec : Record) → same_state state.Applying rec.state ≡ false → pending_of (look c) rec ≡ []
@@ -64,7 +69,7 @@ pub kept_id : (c : Content) (id : TxnId) (rec : Record) → IsSound c → record
 kept_id c id rec s there = s.kinds (name.Record id) (cell.Record rec) (record_under c id rec there)
 
 pub stored_numbers : (c : Content) (id : TxnId) (rec : Record) → IsSound c → record_at c id ≡ Some rec → is_numbered_record rec ≡ true
-stored_numbers c id rec s there = s.numbers (name.Record id) (cell.Record rec) (record_under c id rec there)
+stored_numbers c id rec s there = (parts c s).numbers (name.Record id) (cell.Record rec) (record_under c id rec there)
 
 -- a preparing record has no nonce
 pub no_nonce : (rec : Record) → is_numbered_record rec ≡ true → rec.state ≡ state.Preparing → rec.nonce ≡ None
@@ -79,6 +84,7 @@ pub put_quiet : (c : Content) (id : TxnId) (rec : Record) → let d = insert c (
     → pending_of (look c) rec ≡ flat_map (pending_of (look c)) (option_to_list (record_at c id)) → ((at : ℕ) → newly_chosen c at rec ≡ None) → IsQuiet c d
 put_quiet c id rec s step to_do known = record {
   step = step;
+  entry = λ key. inl (Lookups.stash_at-put_record c (cell.Record rec) id key);
   means = meaning-put c id rec s.kinds (record_looks c id rec).held to_do;
   none = λ at. decided_by-put c at id rec s.kinds ∙ ap option_to_list (known at);
 }
@@ -87,7 +93,7 @@ inserted : (c : Content) (id : TxnId) (rec : Record) → IsSound c → rec.state
     → IsQuiet c (insert c (name.Record id) (cell.Record rec))
 unfolding record_at look
 inserted c id rec s prepares numbered absent same =
-    put_quiet c id rec s (record { sound = sound_put_record c id rec s step same numbered nonce (λ applies. absurd (cc (prepares, applies))); later = step.later; lost = lost_inserted id rec (record_looks c id rec) gone; done = done_put c id rec (λ was revnos there applies. absurd (cc (gone, there))) })
+    put_quiet c id rec s (record { sound = sound_put_record c id rec s step same numbered nonce (apart_if_absent c id gone) (λ applies. absurd (cc (prepares, applies))); later = step.later; lost = lost_inserted id rec (record_looks c id rec) gone; done = done_put c id rec (λ was revnos there applies. absurd (cc (gone, there))); cells = stays_put_record c id rec })
     (idle c rec (ap (same_state state.Applying) prepares) ∙ sym (ap (λ (o : Option Record). flat_map (pending_of (look c)) (option_to_list o)) gone))
     (λ at. unchosen c at rec (ap was_decided_state prepares))
   where
@@ -124,7 +130,7 @@ prepared : (c : Content) (id : TxnId) (number : ℕ) → IsSound c → number < 
     → (was : Record) → record_at c id ≡ Some was → was.state ≡ state.Preparing → IsQuiet c (insert c (name.Record id) (cell.Record (moved state.Prepared (Some number) None was)))
 unfolding look
 prepared c id number s below queued was there from =
-    put_quiet c id rec s (record { sound = sound_put_record c id rec s step (kept_id c id was s there) (numbered_prepared was number (stored_numbers c id was s there) from) below (λ applies. absurd (cc applies)); later = step.later; lost = lost_moved id was rec (record_looks c id rec) there (goes_prepared was number (stored_numbers c id was s there) from); done = done_put c id rec (λ w revnos t applies numbers applied. absurd (cc applied)) })
+    put_quiet c id rec s (record { sound = sound_put_record c id rec s step (kept_id c id was s there) (numbered_prepared was number (stored_numbers c id was s there) from) below (apart_in_state c id was state.Preparing there from (λ e. cc e)) (λ applies. absurd (cc applies)); later = step.later; lost = lost_moved id was rec (record_looks c id rec) there (goes_prepared was number (stored_numbers c id was s there) from); done = done_put c id rec (λ w revnos t applies numbers applied. absurd (cc applied)); cells = stays_put_record c id rec })
     (in_place c id was rec there (idle c rec refl ∙ sym (idle c was (ap (same_state state.Applying) from))))
     (λ at. unchosen c at rec refl)
   where
@@ -143,13 +149,14 @@ prepare_quiet c id number s below queued = by_move c id state.Preparing state.Pr
 
 -- a decided record moves on without a new nonce
 pub settled_step : (c : Content) (id : TxnId) (from to : State) (was : Record) → IsSound c → record_at c id ≡ Some was → was.state ≡ from → same_state from state.Preparing ≡ same_state to state.Preparing → has_revnos from ≡ has_revnos to
-    → same_state state.Applying to ≡ false → may_follow from to ≡ true → let d = insert c (name.Record id) (cell.Record (moved to None None was)) in IsOrderlyStep (look c) (look d) → StaysDone c d → IsStep c d
+    → same_state state.Applying to ≡ false → may_follow from to ≡ true → MarksApart c id → let d = insert c (name.Record id) (cell.Record (moved to None None was)) in IsOrderlyStep (look c) (look d) → StaysDone (look c) (look d) → IsStep c d
 unfolding look
-settled_step c id from to was s there state nonces chains stops follows step done = record {
-  sound = sound_put_record c id rec s step (kept_id c id was s there) (numbered_as was from to state nonces chains (stored_numbers c id was s there)) (s.record_nonces id was there) (λ applies. absurd (cc (stops, applies)));
+settled_step c id from to was s there state nonces chains stops follows apart step done = record {
+  sound = sound_put_record c id rec s step (kept_id c id was s there) (numbered_as was from to state nonces chains (stored_numbers c id was s there)) ((parts c s).record_nonces id was there) apart (λ applies. absurd (cc (stops, applies)));
   later = step.later;
   lost = lost_moved id was rec (record_looks c id rec) there (goes_plainly was from to state follows);
   done = done;
+  cells = stays_put_record c id rec;
 }
   where
     rec : Record
@@ -165,7 +172,7 @@ ended : (c : Content) (id : TxnId) → IsSound c → (was : Record) → record_a
 unfolding look
 ended c id s was there from =
     put_quiet c id rec s
-    (settled_step c id state.Aborting state.Aborted was s there from refl refl refl refl (end_step id was (orderly c s) (record_looks c id rec) there from) (done_put c id rec (λ w revnos t applies numbers applied. absurd (cc applied))))
+    (settled_step c id state.Aborting state.Aborted was s there from refl refl refl refl (apart_in_state c id was state.Aborting there from (λ e. cc e)) (end_step id was (orderly c s) (record_looks c id rec) there from) (done_put c id rec (λ w revnos t applies numbers applied. absurd (cc applied))))
     (in_place c id was rec there (idle c rec refl ∙ sym (idle c was (ap (same_state state.Applying) from))))
     (settled_already c id was rec s there refl (ap was_decided_state from))
   where

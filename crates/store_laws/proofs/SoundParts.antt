@@ -3,15 +3,18 @@ use Rattle.std.proofs.Common.{◌≡◌, ◌<◌, true, Some, [], IfSome, IsTrue
 use Rattle.std.proofs.lemmas.Option.{same_Some}
 use Rattle.std.specs.FinMap.{insert}
 use Rattle.txn_key.specs.declared.id.TxnId.{TxnId}
+use Rattle.txn_key.specs.declared.key.Key.{Key}
 use Rattle.txn_record.specs.Effects.{changes_fit}
 use Rattle.txn_record.specs.Revnos.{is_on_chain}
 use Rattle.txn_record.specs.declared.record.Record.{Record}
 use Rattle.txn_record.specs.declared.state.State.TheVariants as state
 use Rattle.store_trait.specs.Names.{same_state, may_stand}
 use Rattle.store_trait.specs.Contents.{Content}
-use Rattle.store_laws.specs.View.{View, Held, look, record_at, counter, held_number}
-use Rattle.store_laws.specs.Soundness.{IsSound, StandsOnChain, PendingFits, is_numbered}
+use Rattle.store_laws.specs.View.{View, Held, look, record_at, counter, held_number, applying, was_decided}
+use Rattle.store_laws.specs.Soundness.{IsSound, Rule, Holds, AtRecord, IsInQueues, IfApplying, StandsOnChain, PendingFits, IsMarkedSoundly, HasSoundEntry, is_numbered}
+use Rattle.store_laws.specs.Readiness.{IsReady, Sealed}
 use Rattle.store_trait.specs.declared.cell.Cell.TheVariants as cell
+use Rattle.store_trait.specs.declared.name.Name.{Name}
 use Rattle.store_trait.specs.declared.name.Name.TheVariants as name
 use Rattle.store_laws.proofs.Shapes.{SameHeld, ChangesRecord}
 use Rattle.store_laws.proofs.Orderly.{IsOrderly}
@@ -19,7 +22,9 @@ use Rattle.store_laws.proofs.Changes.{IsOrderlyStep}
 use Rattle.store_laws.proofs.Moves.{each_record, put_here}
 use Rattle.store_laws.proofs.Looks.{record_looks}
 use Rattle.store_laws.proofs.CellRules.{HasSoundCells, sound_cells, cells_put_record}
+use Rattle.store_laws.proofs.Marks.{MarksApart, marks_put_record}
 use Rattle.store_laws.proofs.Meanings.{pending_of-same, bodies-same}
+use Rattle.store_laws.proofs.Parts.{Parts, parts, HasMarksAt}
 
 -- the rules on what an applying record finds and has still to do
 pub record HasSoundChains (c : Content) : Type 0 where
@@ -27,24 +32,42 @@ pub record HasSoundChains (c : Content) : Type 0 where
   pub fits : (id : TxnId) (rec : Record) → record_at c id ≡ Some rec → IsTrue (same_state state.Applying rec.state) → PendingFits c rec
 
 pub sound_chains : (c : Content) → IsSound c → HasSoundChains c
-sound_chains c s = record { on_chain = s.on_chain; fits = s.fits }
+sound_chains c s = record { on_chain = (parts c s).on_chain; fits = (parts c s).fits }
 
-pub sound_from : (c : Content) → HasSoundCells c → IsOrderly (look c) → HasSoundChains c → IsSound c
+pub at_record : (P : TxnId → Type 0) → ((id : TxnId) → P id) → (n : Name) → AtRecord P n
+at_record P all (name.Record id) = all id
+at_record P all (name.Doc key) = tt
+at_record P all (name.Stash key) = tt
+at_record P all name.Nonce = tt
+
+pub marks_by_name : (c : Content) → ((key : Key) → HasMarksAt c key) → (n : Name) → IsMarkedSoundly c n
+marks_by_name c all (name.Record id) = tt
+marks_by_name c all (name.Doc key) = (all key).of_doc
+marks_by_name c all (name.Stash key) = (all key).of_stash
+marks_by_name c all name.Nonce = tt
+
+pub entries_by_name : (c : Content) → ((key : Key) → HasMarksAt c key) → (n : Name) → HasSoundEntry c n
+entries_by_name c all (name.Record id) = tt
+entries_by_name c all (name.Doc key) = tt
+entries_by_name c all (name.Stash key) = (all key).entry
+entries_by_name c all name.Nonce = tt
+
+-- soundness from its parts
+pub sound_from : (c : Content) → HasSoundCells c → IsOrderly (look c) → ((key : Key) → HasMarksAt c key) → HasSoundChains c → IsSound c
 unfolding look
-sound_from c cells o chains = record {
-  kinds = cells.kinds;
-  numbers = cells.numbers;
-  doc_tokens = cells.doc_tokens;
-  stash_tokens = cells.stash_tokens;
-  doc_nonces = cells.doc_nonces;
-  stash_nonces = cells.stash_nonces;
-  record_nonces = cells.record_nonces;
-  queued = o.queued;
-  ready = o.ready;
-  sealed = o.sealed;
-  on_chain = chains.on_chain;
-  fits = chains.fits;
-}
+sound_from c cells o marks chains = record { kinds = λ n x found. (cells n x found).stands; rules = rules }
+  where
+    rules : (rule : Rule) (n : Name) → Holds rule c n
+    rules Rule.Numbers n = λ x found. (cells n x found).numbered
+    rules Rule.Tokens n = λ x found. (cells n x found).tokens
+    rules Rule.Nonces n = λ x found. (cells n x found).nonces
+    rules Rule.InQueues n = at_record (IsInQueues c) o.queued n
+    rules Rule.AppliesReady n = at_record (λ id. applying (look c) id ≡ true → IsReady (look c) id) o.ready n
+    rules Rule.DecidedSealed n = at_record (λ id. was_decided (look c) id ≡ true → Sealed (look c) id) o.sealed n
+    rules Rule.Marks n = marks_by_name c marks n
+    rules Rule.Entries n = entries_by_name c marks n
+    rules Rule.OnChain n = at_record (IfApplying c (StandsOnChain (look c))) chains.on_chain n
+    rules Rule.Fits n = at_record (IfApplying c (PendingFits c)) chains.fits n
 
 -- where what is held stays
 
@@ -62,10 +85,10 @@ chains_same c d s records same = record {
 
 -- A record is put, which, if it is applying, stands on its chain, with what it has to do fitting.
 pub sound_put_record : (c : Content) (id : TxnId) (rec : Record) → let d = insert c (name.Record id) (cell.Record rec) in IsSound c → IsOrderlyStep (look c) (look d) → may_stand (name.Record id) (cell.Record rec) ≡ true → is_numbered (cell.Record rec) ≡ true
-    → IfSome rec.nonce (λ nonce. nonce < counter c) → (IsTrue (same_state state.Applying rec.state) → StandsOnChain (look c) rec × PendingFits c rec) → IsSound d
+    → IfSome rec.nonce (λ nonce. nonce < counter c) → MarksApart c id → (IsTrue (same_state state.Applying rec.state) → StandsOnChain (look c) rec × PendingFits c rec) → IsSound d
 unfolding look
-sound_put_record c id rec s step stands numbered below chain =
-    sound_from d (cells_put_record c id rec (sound_cells c s) step.later stands numbered below) step.orderly (record {
+sound_put_record c id rec s step stands numbered below apart chain =
+    sound_from d (cells_put_record c id rec (sound_cells c s) step.later stands numbered below) step.orderly (marks_put_record c id rec s apart) (record {
       on_chain = λ i r there applies. (each i r there applies).0;
       fits = λ i r there applies. (each i r there applies).1;
     })
@@ -79,4 +102,4 @@ sound_put_record c id rec s step stands numbered below chain =
     each : (i : TxnId) (r : Record) → record_at d i ≡ Some r → IsTrue (same_state state.Applying r.state) → StandsOnChain (look d) r × PendingFits d r
     each = each_record change.puts (λ i. (r : Record) → record_at d i ≡ Some r → IsTrue (same_state state.Applying r.state) → StandsOnChain (look d) r × PendingFits d r)
         (λ r there applies. subst (λ (r : Record). IsTrue (same_state state.Applying r.state) → StandsOnChain (look d) r × PendingFits d r) (same_Some rec r (sym (put_here id rec change.puts) ∙ there)) (λ applies. (chain_same rec change.held (chain applies).0, fits_same c d rec change.held (chain applies).1)) applies)
-        (λ i same r there applies. (chain_same r change.held (s.on_chain i r (sym same ∙ there) applies), fits_same c d r change.held (s.fits i r (sym same ∙ there) applies)))
+        (λ i same r there applies. (chain_same r change.held ((parts c s).on_chain i r (sym same ∙ there) applies), fits_same c d r change.held ((parts c s).fits i r (sym same ∙ there) applies)))

@@ -23,12 +23,12 @@ use Rattle.store_trait.specs.declared.cell.Cell.TheVariants as cell
 use Rattle.store_trait.specs.declared.name.Name.{Name}
 use Rattle.store_trait.specs.declared.name.Name.TheVariants as name
 use Rattle.store_laws.proofs.RecordEdits.{own_id}
-use Rattle.store_laws.proofs.Orderly.{record_under}
 use Rattle.store_laws.proofs.TrailGrows.{step_of}
 use Rattle.store_laws.proofs.TrailFaithful.{sound_at}
 use Rattle.store_laws.proofs.TrailLegal.{all_append}
 use Rattle.store_laws.proofs.Views.{chosen_at, decided_if_chosen, present_decided}
 use Rattle.store_laws.specs.Trail.{IsCall, Quiet, Applying, Aborting, IsTrail, Tells, IsRecorded, IsKept}
+use Rattle.store_laws.proofs.Under.{record_under}
 
 recorded_before : (xs ys : List Entry) (rec : Record) → IsRecorded xs rec → IsRecorded (xs ++ ys) rec
 recorded_before [] ys rec h = absurd h

@@ -23,11 +23,15 @@ IsAt op revno (o ∷ ops) (r ∷ revnos) = ((o ≡ op) × (r ≡ revno)) ⊎ IsA
 IsAt op revno [] _ = ⊥
 IsAt op revno _ [] = ⊥
 
--- an applying record with an update among its operations, at its number
-pub record AppliesUpdate (c : Content) (id : TxnId) (rec : Record) (op : Op) (revno : ℤ) (update : Value) : Type 0 where
+-- an applying record with an operation among its own, at its number
+pub record AppliesAt (c : Content) (id : TxnId) (rec : Record) (op : Op) (revno : ℤ) : Type 0 where
   pub there : record_at c id ≡ Some rec
   pub applies : rec.state ≡ state.Applying
   pub numbers : List ℤ
   pub numbered : rec.revnos ≡ Some numbers
   pub stands : IsAt op revno rec.ops numbers
+
+-- the same of an update
+pub record AppliesUpdate (c : Content) (id : TxnId) (rec : Record) (op : Op) (revno : ℤ) (update : Value) : Type 0 where
+  pub at : AppliesAt c id rec op revno
   pub change : op.change ≡ Update update

@@ -17,3 +17,4 @@ pub mod History
 pub mod Steps
 pub mod Later
 pub mod Done
+pub mod Entries

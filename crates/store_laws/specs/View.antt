@@ -97,7 +97,7 @@ abbrev pub state_passes : (State → Bool) → Option Record → Bool
 state_passes test None = false
 state_passes test (Some rec) = test rec.state
 
-unfoldable pub decided : View → TxnId → Bool
+unfoldable pub was_prepared : View → TxnId → Bool
 was_prepared view id = state_passes was_prepared_state (view.record_at id)
 
 unfoldable pub settled : View → TxnId → Bool

@@ -30,7 +30,7 @@ pub use holding::owning_a_key;
 pub use plain::staying_plain;
 pub use preparing::preparing_a_record;
 pub use settling::{
-    closing_an_aborted_record, closing_an_applied_record, passing_without_effect, staying_done,
+    closing_an_aborted_record, closing_an_applied_record, passing_an_operation, staying_done,
     updating_a_document, updating_too_late,
 };
 pub use submitting::{beginning_with_nothing, inserting_a_record, placing_a_document};

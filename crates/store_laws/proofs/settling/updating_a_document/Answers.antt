@@ -5,5 +5,5 @@ pub returns : goal.returns
 returns g = record {
   quiet = update_quiet;
   passes = λ c id rec op revno update nonce sound applies drawn one. update_passes_alone c sound id rec op revno update applies one nonce drawn;
-  passes_in_turn = λ c id rec op revno update nonce sound applies drawn reached level. update_passes c sound id rec op revno update applies reached level nonce drawn;
+  passes_in_turn = λ c id rec op revno update nonce sound applies drawn reached. update_passes c sound id rec op revno update applies reached nonce drawn;
 }
