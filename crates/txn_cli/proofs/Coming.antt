@@ -1,6 +1,6 @@
 -- How far a call has come in its script, between two lines.
 use Rattle.std.specs.Prelude.{◌≡◌, ◌≤◌, ◌++◌, ℕ, Bool, false, IsTrue, List, [], None}
-use Rattle.store_trait.specs.Stores.{CallsGoOn}
+use Rattle.store_trait.specs.Calls.{CallsGoOn}
 use Rattle.store_trait.specs.Contents.{Content}
 use Rattle.txn_io.specs.Lines.{LinesView}
 use Rattle.txn_cli.specs.Play.{Progress, Plays, StandOnTrail, after_lines, has_no_cell, opening, taken_by}

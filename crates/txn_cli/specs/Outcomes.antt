@@ -3,7 +3,7 @@ use Rattle.std.specs.List.{list_any}
 use Rattle.txn_record.specs.declared.entry.Entry.{Entry}
 use Rattle.txn_record.specs.declared.entry.Outcome.{Outcome}
 use Rattle.txn_record.specs.declared.entry.Outcome.TheVariants as outcome
-use Rattle.txn_cli.specs.declared.done.Run.{Run}
+use Rattle.txn_play.specs.declared.run.Run.{Run}
 
 abbrev pub is_aborted_outcome : Outcome → Bool
 is_aborted_outcome outcome.Aborted = true

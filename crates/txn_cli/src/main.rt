@@ -5,15 +5,13 @@
 //! cause; the store comes back with it.
 #![tactic(auto)]
 
-mod batch;
 mod command;
-mod documents;
 mod done;
 mod fault;
-mod go;
-mod places;
+mod line;
+mod output;
 mod print;
-mod session;
+mod stop;
 
 use command::command;
 use std::env;

@@ -1,40 +1,79 @@
 //! The lines that the program prints.
 
 ghost use Rattle.std.specs.Prelude.{◌≡◌, ◌++◌, OnOk, IfOk};
-ghost use Rattle.txn_runner.specs.Settling.{settled_state};
-ghost use Rattle.txn_cli.specs.Texts.{state_line, state_word, fault_text, step_text};
+ghost use Rattle.std.specs.List.{flat_map};
+ghost use Rattle.txn_key.specs.Documents.{pairs_of};
+ghost use Rattle.txn_cli.specs.Output.{answer_text, fault_text, state_line, state_word, step_text};
+ghost use Rattle.txn_script.specs.Printing.{document_line};
 
 use crate::fault::Fault;
 use doc_value::OutOfMemory;
 use std::alloc::Global;
-use txn_key::{Key, Token, TxnId};
-use txn_record::Outcome;
+use txn_key::{Doc, Key, Token, TxnId};
+use txn_play::{Answer, RecordState};
+use txn_record::State;
 use txn_runner::StepError;
-use txn_script::push_key;
+use txn_script::{push_document, push_key};
 
-/// The line of a transaction's outcome: its id, a blank and a word.
-pub fn push_outcome(
-    alloc: Global,
-    out: &mut Vec<u8>,
-    id: TxnId,
-    outcome: Outcome,
-) -> Result<(), OutOfMemory>
-    ensures { OnOk result (out.new.items ≡ out.old.items ++ state_line id (settled_state outcome)) }
+/// The lines of what a statement answers.
+pub fn lines_of(alloc: Global, answer: &Answer) -> Result<Vec<u8>, OutOfMemory>
+    ensures { IfOk result (λ lines. lines.items ≡ answer_text answer.now) }
 {
-    let digits = id.print(alloc)?;
+    let mut lines = Vec::new(alloc);
+    match answer {
+        Answer::Nothing => {}
+        Answer::States(states) => push_states(alloc, &mut lines, states.as_slice())?,
+        Answer::Documents(docs) => push_documents(&mut lines, docs.as_slice())?,
+    }
+    Ok(lines)
+}
+
+/// A line for each document, in their order.
+fn push_documents(lines: &mut Vec<u8>, docs: &[Doc]) -> Result<(), OutOfMemory>
+    ensures { OnOk result (lines.new.items ≡ lines.old.items ++ flat_map document_line (pairs_of docs.now)) }
+{
+    for doc in docs {
+        push_document(lines, doc)?;
+    }
+    Ok(())
+}
+
+/// A line for each transaction, in their order.
+fn push_states(
+    alloc: Global,
+    lines: &mut Vec<u8>,
+    states: &[RecordState],
+) -> Result<(), OutOfMemory>
+    ensures { OnOk result (lines.new.items ≡ lines.old.items ++ flat_map state_line states.now) }
+{
+    for it in states {
+        push_state(alloc, lines, it)?;
+    }
+    Ok(())
+}
+
+/// The line of a transaction: its id, a blank and the word of its record's state.
+fn push_state(alloc: Global, out: &mut Vec<u8>, it: &RecordState) -> Result<(), OutOfMemory>
+    ensures { OnOk result (out.new.items ≡ out.old.items ++ state_line it.now) }
+{
+    let digits = it.id.print(alloc)?;
     out.extend_from_slice(digits.as_slice())?;
     out.push(b' ')?;
-    out.extend_from_slice(outcome_word(outcome))?;
+    out.extend_from_slice(word_of(it.state))?;
     out.push(b'\n')?;
     Ok(())
 }
 
-fn outcome_word(outcome: Outcome) -> &'static [u8]
-    ensures { result.now ≡ state_word (settled_state outcome) }
+fn word_of(state: State) -> &'static [u8]
+    ensures { result.now ≡ state_word state }
 {
-    match outcome {
-        Outcome::Applied => b"applied",
-        Outcome::Aborted => b"aborted",
+    match state {
+        State::Preparing => b"preparing",
+        State::Prepared => b"prepared",
+        State::Aborting => b"aborting",
+        State::Applying => b"applying",
+        State::Aborted => b"aborted",
+        State::Applied => b"applied",
     }
 }
 

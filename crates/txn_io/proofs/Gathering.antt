@@ -1,10 +1,14 @@
-use Rattle.std.proofs.Common.{◌≡◌, ◌+◌, ◌++◌, ℕ, List, [], Some, None, length, take, drop, length-append, length-take, sym, ap, ◌∙◌, arith, add-one}
+use Rattle.std.proofs.Common.{◌≡◌, ◌+◌, ◌++◌, ℕ, List, [], Some, None, Err, IsTrue, length, take, drop, length-append, length-take, subst, sym, ap, ◌∙◌, ◌≤◌, inl, inr, arith, add-one, refl}
 use Rattle.std.proofs.Math.Nat.{min-eq_left}
-use Rattle.txn_io.specs.Lines.{IsPartTaken, line_of, line_cost, limit_passed}
-use Rattle.txn_io.specs.Gathering.{Ends, GoesOn, IsPassed}
+use Rattle.txn_io.specs.Faults.{Rose}
+use Rattle.txn_io.specs.Lines.{IsPartTaken, line_of, line_cost, limit_passed, reading, unless_passed, first_line}
+use Rattle.txn_io.specs.LineParts.{Ends, GoesOn, IsPassed, IsUngathered}
+use Rattle.txn_io.specs.Unread.{Unread, IsRefused}
 use Rattle.txn_io.specs.declared.lines.LineFault.{LineFault}
+use Rattle.txn_io.specs.declared.lines.LineFault.TheVariants.{ReadFault, TooLong, ScriptTooLong, OutOfMemory}
+use Rattle.txn_io.specs.declared.source.Source.{Ghosts}
 use Rattle.txn_io.proofs.Invariants.{IsSoFar}
-use Rattle.txn_io.proofs.Limits.{passed_more}
+use Rattle.txn_io.proofs.Limits.{passed_more, is_limit}
 use Rattle.txn_io.proofs.Newlines.{HasNewlineAt, HasNoNewline, front_of_line, line_no_longer}
 
 pub ends_passed : (taken before : ℕ) (line bytes : List ℕ) (index : ℕ) (fault : LineFault) → HasNewlineAt bytes index → before ≡ length line → limit_passed taken (before + index) (before + index + 1) ≡ Some fault → IsPassed taken line bytes fault
@@ -32,8 +36,8 @@ ends_at taken before line bytes later ahead index at here within gathered left =
       within = rw size within;
     }
 
-pub goes_on : (taken before : ℕ) (line bytes later : List ℕ) → HasNoNewline bytes → before ≡ length line → limit_passed taken (before + length bytes) (before + length bytes) ≡ None → later ≡ line ++ bytes → GoesOn taken line bytes later
-goes_on taken before line bytes later none here within gathered =
+pub goes_on : (taken before : ℕ) (line bytes later ahead : List ℕ) → HasNoNewline bytes → before ≡ length line → limit_passed taken (before + length bytes) (before + length bytes) ≡ None → later ≡ line ++ bytes → ahead ≡ [] → GoesOn taken line bytes later ahead
+goes_on taken before line bytes later ahead none here within gathered used =
     let size : length later ≡ before + length bytes = omega (arith, ap length gathered, length-append line bytes, here) in
     record {
       line = gathered;
@@ -41,6 +45,7 @@ goes_on taken before line bytes later none here within gathered =
       after = none.after;
       cost = none.cost;
       within = rw size within;
+      used = used;
     }
 
 -- where all that was taken was gathered, and no more could be
@@ -52,3 +57,38 @@ none_lost input line ahead rest later now so_far used fill none =
       taken = so_far.whole ∙ ap (λ (l : List ℕ). line ++ l) left;
       within = front_of_line line (ahead ++ rest) (sym (ap line_of so_far.whole) ∙ so_far.line);
     }
+
+-- a limit that these bytes pass, whatever comes after, is why they aren't gathered
+pub ungathered : (taken : ℕ) (line ahead : List ℕ) (fault : LineFault) → IsPassed taken line ahead fault → IsUngathered taken line ahead fault
+ungathered taken line ahead ReadFault passed = (is_limit taken (length (line ++ line_of (ahead ++ []))) (length line + line_cost (ahead ++ [])) ReadFault (passed [])).0 refl
+ungathered taken line ahead TooLong passed = passed
+ungathered taken line ahead ScriptTooLong passed = passed
+ungathered taken line ahead OutOfMemory passed = tt
+
+-- a limit that the line passes so is what a read of it answers
+read_so : (begun taken : ℕ) (input line left : List ℕ) (fault : LineFault) → IsSoFar input line left → taken ≡ begun → limit_passed taken (length (line ++ line_of left)) (length line + line_cost left) ≡ Some fault → reading begun input ≡ Err fault
+read_so begun taken input line left fault so_far same passed =
+    let whole : limit_passed begun (length (line_of input)) (line_cost input) ≡ Some fault =
+    ap (λ (n : ℕ). limit_passed begun (length (line_of input)) n) so_far.cost
+    ∙ ap (λ (l : List ℕ). limit_passed begun (length l) (length line + line_cost left)) so_far.line
+    ∙ ap (λ (n : ℕ). limit_passed n (length (line ++ line_of left)) (length line + line_cost left)) (sym same) ∙ passed in
+    ap (λ p. unless_passed p (first_line input)) whole
+
+-- why bytes aren't gathered is why the line isn't read
+pub refused_there : {S : Type 0} (source : Ghosts S) (old now : S) (script : Unread) (taken : ℕ) (line ahead rest left : List ℕ) (fault : LineFault) → (IsTrue source.tells → IsSoFar script.left line left) → (IsTrue source.tells → ahead ++ rest ≡ left) → taken ≡ script.taken → IsUngathered taken line ahead fault → IsRefused source old now script fault
+refused_there source old now script taken line ahead rest left ReadFault so_far whole same why = absurd why
+refused_there source old now script taken line ahead rest left TooLong so_far whole same why = λ told. read_so _ taken _ line (ahead ++ rest) TooLong (subst (IsSoFar script.left line) (sym (whole told)) (so_far told)) same (why rest)
+refused_there source old now script taken line ahead rest left ScriptTooLong so_far whole same why = λ told. read_so _ taken _ line (ahead ++ rest) ScriptTooLong (subst (IsSoFar script.left line) (sym (whole told)) (so_far told)) same (why rest)
+refused_there source old now script taken line ahead rest left OutOfMemory so_far whole same why = tt
+
+-- a count that rose later rose
+pub rose_later : (old now new : ℕ) → old ≤ now → Rose now new → Rose old new
+rose_later old now new le rose = elim rose as (λ _. Rose old new) [ inl more ↦ inl (omega arith) | inr last ↦ inr last ]
+
+-- bytes that are taken where all before were used are those that were left
+pub filled : {S : Type 0} (rest : S → List ℕ) (ahead taken later : List ℕ) (source fed now : S) → later ≡ taken → now ≡ fed → taken ++ rest fed ≡ rest source → ahead ≡ [] → later ++ rest now ≡ ahead ++ rest source
+filled rest ahead taken later source fed now later_is now_is fill none =
+    ap (λ (l : List ℕ). l ++ rest now) later_is ∙ ap (λ s. taken ++ rest s) now_is ∙ fill ∙ ap (λ (l : List ℕ). l ++ rest source) (sym none)
+
+pub unfilled : {S : Type 0} (rest : S → List ℕ) (ahead later : List ℕ) (source now : S) → later ≡ ahead → now ≡ source → later ++ rest now ≡ ahead ++ rest source
+unfilled rest ahead later source now later_is now_is = ap (λ (l : List ℕ). l ++ rest now) later_is ∙ ap (λ s. ahead ++ rest s) now_is

@@ -3,7 +3,7 @@ use Rattle.std.proofs.lemmas.Bool.{ltb-true, ltb-false, lt-ltb, le-ltb}
 use Rattle.std.proofs.lemmas.Option.{none-some}
 use Rattle.txn_io.specs.Lines.{limit_passed}
 use Rattle.txn_io.specs.declared.lines.LineFault.{LineFault}
-use Rattle.txn_io.specs.declared.lines.LineFault.TheVariants.{TooLong, ScriptTooLong}
+use Rattle.txn_io.specs.declared.lines.LineFault.TheVariants.{ReadFault, TooLong, ScriptTooLong, OutOfMemory}
 
 -- a line within its limits is within the script's
 pub within_script : (taken size cost : ℕ) → limit_passed taken size cost ≡ None → taken + cost ≤ 268435456
@@ -60,3 +60,15 @@ passed_more taken known size cost fault passed more whole =
           ] refl
       | false ↦ λ short e. passed_short taken known size cost fault (ltb-false _ _ short) more whole e
     ] refl passed
+
+-- a limit is no fault of the source, and no want of memory
+pub is_limit : (taken size cost : ℕ) (fault : LineFault) → limit_passed taken size cost ≡ Some fault → (fault ≡ ReadFault → ⊥) × (fault ≡ OutOfMemory → ⊥)
+is_limit taken size cost fault passed =
+    elim (ltb 16777216 size && ltb taken 251658241)
+    as (λ b. cond b (Some TooLong) (cond (ltb 268435456 (taken + cost)) (Some ScriptTooLong) None) ≡ Some fault → (fault ≡ ReadFault → ⊥) × (fault ≡ OutOfMemory → ⊥)) [
+      | true ↦ λ e. (λ other. cc, λ other. cc)
+      | false ↦ elim (ltb 268435456 (taken + cost)) as (λ b. cond b (Some ScriptTooLong) None ≡ Some fault → (fault ≡ ReadFault → ⊥) × (fault ≡ OutOfMemory → ⊥)) [
+        | true ↦ λ e. (λ other. cc, λ other. cc)
+        | false ↦ λ e. (λ other. cc, λ other. cc)
+      ]
+    ] passed

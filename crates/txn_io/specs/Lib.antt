@@ -1,5 +1,6 @@
 pub mod Faults
-pub mod Gathering
+pub mod LineParts
 pub mod Lines
 pub mod Memory
 pub mod Pour
+pub mod Unread

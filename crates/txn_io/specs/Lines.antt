@@ -18,8 +18,9 @@ abbrev pub line_cost : List ℕ → ℕ
 line_cost [] = 0
 line_cost (byte ∷ bytes) = if byte == 10 then 1 else line_cost bytes + 1
 
--- what is wrong with a line of so many bytes, which takes `cost` of them after `taken` of the script:
--- 16,777,216 bytes and one more that is no newline, or 268,435,456 bytes of the script and one more
+-- what is wrong with a line of so many bytes, which takes `cost` of them after `taken` of the
+-- script: 16,777,216 bytes and one more that is no newline, or 268,435,456 of the script and one
+-- more
 abbrev pub limit_passed : ℕ → ℕ → ℕ → Option LineFault
 limit_passed taken size cost =
     if ltb 16777216 size && ltb taken 251658241 then Some TooLong
@@ -36,7 +37,8 @@ unless_passed (Some fault) line = Err fault
 
 -- what a read of the first line answers, where so many bytes of the script were taken before
 abbrev pub reading : ℕ → List ℕ → Result (Option (List ℕ)) LineFault
-reading taken input = unless_passed (limit_passed taken (length (line_of input)) (line_cost input)) (first_line input)
+reading taken input =
+    unless_passed (limit_passed taken (length (line_of input)) (line_cost input)) (first_line input)
 
 abbrev pub has_newline : List ℕ → Bool
 has_newline bytes = list_any (λ byte. byte == 10) bytes
@@ -47,8 +49,8 @@ pub record IsPartTaken (input left : List ℕ) : Type 0 where
   pub taken : input ≡ part ++ left
   pub within : has_newline part ≡ false
 
--- a reader of lines: the bytes that it took from the source and hasn't handed out, how many of the script
--- it handed out, and the refusal that it stands at
+-- a reader of lines: the bytes that it took from the source and hasn't handed out, how many of the
+-- script it handed out, and the refusal that it stands at
 pub record LinesView : Type 0 where
   pub pending : List ℕ
   pub taken : ℕ

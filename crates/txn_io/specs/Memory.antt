@@ -2,7 +2,8 @@ use Rattle.std.specs.Prelude.{◌==◌, ◌&&◌, ◌||◌, not, nat_le, ℕ, Bo
 use Rattle.std.specs.List.{list_any}
 use Rattle.txn_io.specs.Faults.{counted}
 
--- a source in memory: the bytes left, the numbers of the calls that fail, the calls made and the failures
+-- a source in memory: the bytes left, the numbers of the calls that fail, the calls made and the
+-- failures
 pub record SourceView : Type 0 where
   pub rest : List ℕ
   pub fails : List ℕ
@@ -24,4 +25,5 @@ is_numbered fails calls = list_any (λ n. n == counted calls) fails
 -- whether the next call fails: by its number, or since it brings bytes where no room is left
 abbrev pub refuses : SinkView → List ℕ → Bool
 refuses sink piece =
-    is_numbered sink.fails sink.calls || (nat_le sink.room (length sink.written) && not (length piece == 0))
+    is_numbered sink.fails sink.calls
+    || (nat_le sink.room (length sink.written) && not (length piece == 0))

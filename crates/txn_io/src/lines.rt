@@ -1,9 +1,9 @@
-ghost use Rattle.std.specs.Prelude.{◌≡◌, ◌<◌, ◌≤◌, ◌+◌, ◌++◌, ◌==◌, [], ℕ, List, length, Option, option_map, IfOk, IfErr, IsSome, OnOk, IsTrue, ◌≢◌, true, false};
+ghost use Rattle.std.specs.Prelude.{◌≡◌, ◌<◌, ◌≤◌, ◌+◌, ◌==◌, [], length, option_map, IfOk, IfErr, IsSome, OnOk, IsTrue, MatchResult, true, false};
 ghost use Rattle.std.specs.List.{position};
-ghost use Rattle.txn_io.specs.Faults.{Rose};
 ghost use Rattle.txn_io.specs.declared.lines.LineFault.TheVariants.{OutOfMemory};
-ghost use Rattle.txn_io.specs.Lines.{IsPartTaken, LinesView, reading, after_line, line_cost, limit_passed};
-ghost use Rattle.txn_io.specs.Gathering.{Ends, GoesOn, IsPassed, IsLimit};
+ghost use Rattle.txn_io.specs.LineParts.{Ends, GoesOn, IsUngathered};
+ghost use Rattle.txn_io.specs.Lines.{LinesView, limit_passed};
+ghost use Rattle.txn_io.specs.Unread.{HasRead, IsRefused, unread, unread_behind};
 
 use super::read_ahead::ReadAhead;
 use super::source::Source;
@@ -70,25 +70,25 @@ impl Lines {
 
     /// The next line without its newline, or None at the end of the input.
     ///
-    /// A last line without a newline counts. A line has at most 16,777,216 bytes, and a script at
-    /// most 268,435,456, its newlines among them. After a refusal each further call answers the same.
-    /// Where the source failed, no whole line was taken that hasn't been handed out.
+    /// A last line without a newline counts. A line has at most 16,777,216 bytes, and a script
+    /// at most 268,435,456, its newlines among them. After a refusal each further call answers the
+    /// same. Where the source failed, no whole line was taken that hasn't been handed out.
     pub fn next<S: Source>(
         &mut self,
         alloc: Global,
         source: &mut S,
     ) -> Result<Option<Vec<u8>>, LineFault>
-        ensures line { IsTrue S.tells → IfOk result (λ line. reading self.old.taken (self.old.pending ++ S.rest source.old) ≡ Ok (option_map (λ v. v.items) line)) }
-        ensures rest { IsTrue S.tells → OnOk result (self.new.pending ++ S.rest source.new ≡ after_line (self.old.pending ++ S.rest source.old)) }
-        ensures taken { IsTrue S.tells → OnOk result (self.new.taken ≡ self.old.taken + line_cost (self.old.pending ++ S.rest source.old)) }
-        ensures too_long { IsTrue S.tells → self.old.fault ≡ None → result ≡ Err LineFault.TooLong → reading self.old.taken (self.old.pending ++ S.rest source.old) ≡ Err LineFault.TooLong }
-        ensures script_too_long { IsTrue S.tells → self.old.fault ≡ None → result ≡ Err LineFault.ScriptTooLong → reading self.old.taken (self.old.pending ++ S.rest source.old) ≡ Err LineFault.ScriptTooLong }
-        ensures read_fault { self.old.fault ≡ None → result ≡ Err LineFault.ReadFault → Rose (S.faults source.old) (S.faults source.new) }
-        ensures none_lost { IsTrue S.tells → self.old.fault ≡ None → result ≡ Err LineFault.ReadFault → IsPartTaken (self.old.pending ++ S.rest source.old) (S.rest source.new) }
-        ensures again { (fault : LineFault) → self.old.fault ≡ Some fault → (result ≡ Err fault) × (source.new ≡ source.old) }
-        ensures goes_on { OnOk result ((self.old.fault ≡ None) × (self.new.fault ≡ None)) }
-        ensures stands { IfErr result (λ fault. self.new.fault ≡ Some fault) }
-        ensures faults { S.faults source.old ≤ S.faults source.new }
+        ensures done { IsTrue S.tells → IfOk result (λ line.
+            HasRead (unread S.Source self.old source.old) (unread S.Source self.new source.new)
+            (option_map (λ bytes. bytes.items) line)) }
+        ensures refused { self.old.fault ≡ None → IfErr result
+            (IsRefused S.Source source.old source.new (unread S.Source self.old source.old)) }
+        ensures again { (fault : LineFault) → self.old.fault ≡ Some fault →
+            (result ≡ Err fault) × (source.new ≡ source.old) }
+        ensures standing { MatchResult result
+            (λ _. (self.old.fault ≡ None) × (self.new.fault ≡ None))
+            (λ fault. self.new.fault ≡ Some fault) }
+        ensures kept { S.faults source.old ≤ S.faults source.new }
         ensures more { IfOk result (λ line. IsSome line → self.old.taken < self.new.taken) }
         ensures within { self.new.taken ≤ 268435456 }
     {
@@ -111,15 +111,15 @@ fn read_line<S: Source>(
     source: &mut S,
 ) -> Result<Option<Vec<u8>>, LineFault>
     requires { taken.old ≤ 268435456 }
-    ensures line { IsTrue S.tells → IfOk result (λ line. reading taken.old (ahead.old ++ S.rest source.old) ≡ Ok (option_map (λ v. v.items) line)) }
-    ensures rest { IsTrue S.tells → OnOk result (ahead.new ++ S.rest source.new ≡ after_line (ahead.old ++ S.rest source.old)) }
-    ensures taken { IsTrue S.tells → OnOk result (taken.new ≡ taken.old + line_cost (ahead.old ++ S.rest source.old)) }
-    ensures limit { IsTrue S.tells → IfErr result (λ fault. IsLimit fault → reading taken.old (ahead.old ++ S.rest source.old) ≡ Err fault) }
-    ensures read_fault { result ≡ Err LineFault.ReadFault → Rose (S.faults source.old) (S.faults source.new) }
-    ensures none_lost { IsTrue S.tells → result ≡ Err LineFault.ReadFault → IsPartTaken (ahead.old ++ S.rest source.old) (S.rest source.new) }
-    ensures within { taken.new ≤ 268435456 }
-    ensures faults { S.faults source.old ≤ S.faults source.new }
+    ensures done { IsTrue S.tells → IfOk result (λ line.
+        HasRead (unread_behind S.Source taken.old ahead.old source.old)
+        (unread_behind S.Source taken.new ahead.new source.new)
+        (option_map (λ bytes. bytes.items) line)) }
+    ensures refused { IfErr result (IsRefused S.Source source.old source.new
+        (unread_behind S.Source taken.old ahead.old source.old)) }
+    ensures kept { S.faults source.old ≤ S.faults source.new }
     ensures more { IfOk result (λ line. IsSome line → taken.old < taken.new) }
+    ensures within { taken.new ≤ 268435456 }
 {
     let mut line = Vec::new(alloc);
     loop {
@@ -140,14 +140,15 @@ fn read_line<S: Source>(
     }
 }
 
-/// Moves bytes of the line from those that were taken, and answers whether its newline stood among them.
+/// Moves bytes of the line from those that were taken, and answers whether its newline stood among
+/// them.
 fn gather(taken: u64, ahead: &mut ReadAhead, line: &mut Vec<u8>) -> Result<bool, LineFault>
     requires within { taken + length line.old.items ≤ 268435456 }
-    ensures ends { result ≡ Ok true → Ends taken line.old.items ahead.old line.new.items ahead.new }
-    ensures goes_on { result ≡ Ok false → GoesOn taken line.old.items ahead.old line.new.items }
-    ensures used { result ≡ Ok false → ahead.new ≡ [] }
-    ensures passed { IfErr result (λ fault. IsLimit fault → IsPassed taken line.old.items ahead.old fault) }
-    ensures no_read { result ≢ Err LineFault.ReadFault }
+    ensures ends { result ≡ Ok true →
+        Ends taken line.old.items ahead.old line.new.items ahead.new }
+    ensures goes_on { result ≡ Ok false →
+        GoesOn taken line.old.items ahead.old line.new.items ahead.new }
+    ensures refused { IfErr result (IsUngathered taken line.old.items ahead.old) }
 {
     let bytes = ahead.bytes();
     let before = line.len() as u64;

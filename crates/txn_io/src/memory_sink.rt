@@ -21,16 +21,23 @@ pub struct MemorySink {
 impl Model for MemorySink {
     ghost Value = { SinkView };
 
-    ghost view = { λ s. record { written = s.bytes.items; room = s.room; fails = s.fails.items; calls = s.calls; faults = s.faults } };
+    ghost view = { λ s. record {
+      written = s.bytes.items;
+      room = s.room;
+      fails = s.fails.items;
+      calls = s.calls;
+      faults = s.faults;
+    } };
 
     ghost invariant = { λ s. (length s.bytes.items ≤ s.room) × (s.room ≤ vec_capacity s.bytes) };
 }
 
 impl MemorySink {
-    /// An empty sink with room for so many bytes, whose memory is taken here. `fails` numbers, from 1,
-    /// the calls that fail.
+    /// An empty sink with room for so many bytes, whose memory is taken here. `fails` numbers, from
+    /// 1, the calls that fail.
     pub fn new(alloc: Global, room: u64, fails: Vec<u64>) -> Result<MemorySink, AllocError>
-        ensures { IfOk result (λ sink. sink ≡ record { written = []; room = room; fails = fails.items; calls = 0; faults = 0 }) }
+        ensures { IfOk result (λ sink. sink ≡
+            record { written = []; room = room; fails = fails.items; calls = 0; faults = 0 }) }
     {
         let room = room as usize;
         Ok(MemorySink {
@@ -68,10 +75,12 @@ impl Sink for MemorySink {
     fn put(&mut self, bytes: &[u8]) -> Result<usize, Failed>
         ensures fits { IfOk result (λ n. n ≤ length bytes.now) }
         ensures some { result ≡ Ok 0 → bytes.now ≡ [] }
-        ensures appended { IsTrue true → IfOk result (λ n. self.new.written ≡ self.old.written ++ take n bytes.now) }
+        ensures appended { IsTrue true → IfOk result
+            (λ n. self.new.written ≡ self.old.written ++ take n bytes.now) }
         ensures err { IsTrue true → OnErr result (self.new.written ≡ self.old.written) }
         ensures cause { HasCause self.old.faults self.new.faults result }
-        ensures most { IfOk result (λ n. n ≡ min (length bytes.now) (self.old.room - length self.old.written)) }
+        ensures most { IfOk result
+            (λ n. n ≡ min (length bytes.now) (self.old.room - length self.old.written)) }
         ensures fails { IsErr result ↔ IsTrue (refuses self.old bytes.now) }
         ensures counted { self.new.calls ≡ counted self.old.calls }
         ensures kept { (self.new.fails ≡ self.old.fails) × (self.new.room ≡ self.old.room) }

@@ -19,7 +19,12 @@ pub struct MemorySource {
 impl Model for MemorySource {
     ghost Value = { SourceView };
 
-    ghost view = { λ s. record { rest = drop s.at s.bytes.items; fails = s.fails.items; calls = s.calls; faults = s.faults } };
+    ghost view = { λ s. record {
+      rest = drop s.at s.bytes.items;
+      fails = s.fails.items;
+      calls = s.calls;
+      faults = s.faults;
+    } };
 
     ghost invariant = { λ s. s.at ≤ length s.bytes.items };
 }
@@ -27,7 +32,8 @@ impl Model for MemorySource {
 impl MemorySource {
     /// A source of these bytes. `fails` numbers, from 1, the calls that fail.
     pub fn new(bytes: Vec<u8>, fails: Vec<u64>) -> MemorySource
-        ensures { result ≡ record { rest = bytes.items; fails = fails.items; calls = 0; faults = 0 } }
+        ensures { result ≡
+            record { rest = bytes.items; fails = fails.items; calls = 0; faults = 0 } }
     {
         MemorySource {
             bytes,
@@ -48,7 +54,8 @@ impl Source for MemorySource {
 
     fn take(&mut self, into: &mut [u8]) -> Result<usize, Failed>
         ensures fits { IfOk result (λ n. n ≤ length into.old) }
-        ensures bytes { IsTrue true → IfOk result (λ n. take n into.new ++ self.new.rest ≡ self.old.rest) }
+        ensures bytes { IsTrue true → IfOk result
+            (λ n. take n into.new ++ self.new.rest ≡ self.old.rest) }
         ensures end { IsTrue true → result ≡ Ok 0 → 0 < length into.old → self.old.rest ≡ [] }
         ensures err { IsTrue true → OnErr result (self.new.rest ≡ self.old.rest) }
         ensures cause { HasCause self.old.faults self.new.faults result }

@@ -1,6 +1,6 @@
-ghost use Rattle.std.specs.Prelude.{◌≡◌, ◌≤◌, ◌++◌, OnOk, OnErr, IsTrue};
+ghost use Rattle.std.specs.Prelude.{OnOk, OnErr};
 ghost use Rattle.txn_io.specs.Faults.{HasCause};
-ghost use Rattle.txn_io.specs.Pour.{IsPartPut};
+ghost use Rattle.txn_io.specs.Pour.{Appends, AppendsPart};
 
 use super::sink::Sink;
 use thiserror::Error;
@@ -16,9 +16,9 @@ pub enum PourFault {
 ///
 /// After a failure some first bytes of the piece are written.
 pub fn pour<K: Sink>(sink: &mut K, bytes: &[u8]) -> Result<(), PourFault>
-    ensures whole { IsTrue K.tells → OnOk result (K.written sink.new ≡ K.written sink.old ++ bytes.now) }
-    ensures part { IsTrue K.tells → OnErr result (IsPartPut (K.written sink.old) (K.written sink.new) bytes.now) }
-    ensures cause { HasCause (K.faults sink.old) (K.faults sink.new) result }
+    ensures done { OnOk result (Appends K.Sink sink.old sink.new bytes.now) }
+    ensures part { OnErr result (AppendsPart K.Sink sink.old sink.new bytes.now) }
+    ensures kept { HasCause (K.faults sink.old) (K.faults sink.new) result }
 {
     let mut done = 0;
     while done < bytes.len() {

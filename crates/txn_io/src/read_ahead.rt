@@ -49,7 +49,8 @@ impl ReadAhead {
         self.start += count;
     }
 
-    /// Takes the next bytes from a source, where all bytes before were used. None come only at its end.
+    /// Takes the next bytes from a source, where all bytes before were used. None come only at its
+    /// end.
     pub fn fill<S: Source>(&mut self, source: &mut S) -> Result<(), Failed>
         requires { self.old ≡ [] }
         ensures bytes { IsTrue S.tells → self.new ++ S.rest source.new ≡ S.rest source.old }

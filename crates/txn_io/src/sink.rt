@@ -20,7 +20,8 @@ pub trait Sink {
     fn put(&mut self, bytes: &[u8]) -> Result<usize, Failed>
         ensures fits { IfOk result (λ n. n ≤ length bytes.now) }
         ensures some { result ≡ Ok 0 → bytes.now ≡ [] }
-        ensures appended { IsTrue tells → IfOk result (λ n. written self.new ≡ written self.old ++ take n bytes.now) }
+        ensures appended { IsTrue tells → IfOk result
+            (λ n. written self.new ≡ written self.old ++ take n bytes.now) }
         ensures err { IsTrue tells → OnErr result (written self.new ≡ written self.old) }
         ensures cause { HasCause (faults self.old) (faults self.new) result };
 }

@@ -21,7 +21,8 @@ pub trait Source {
     /// The number is 0 for a non-empty `into` only at the end. A failed call takes nothing.
     fn take(&mut self, into: &mut [u8]) -> Result<usize, Failed>
         ensures fits { IfOk result (λ n. n ≤ length into.old) }
-        ensures bytes { IsTrue tells → IfOk result (λ n. take n into.new ++ rest self.new ≡ rest self.old) }
+        ensures bytes { IsTrue tells → IfOk result
+            (λ n. take n into.new ++ rest self.new ≡ rest self.old) }
         ensures end { IsTrue tells → result ≡ Ok 0 → 0 < length into.old → rest self.old ≡ [] }
         ensures err { IsTrue tells → OnErr result (rest self.new ≡ rest self.old) }
         ensures cause { HasCause (faults self.old) (faults self.new) result };

@@ -3,4 +3,4 @@ use Rattle.txn_runner.proofs.Works.{call_err}
 use Rattle.txn_runner.proofs.calls.may_hit.Goals as goal
 
 pub returns-in_err-edited-clause-call : goal.returns-in_err-edited-clause-call
-returns-in_err-edited-clause-call g c = let p = err_from_is_err_and c.from_residual.result c.from_residual.ensures.1 in rw (p.1, p.2) (call_err _ _ _ _ _ _ _ _ _ _ c.in_err-edited.was c.edit.ensures.call)
+returns-in_err-edited-clause-call g c = let p = err_from_is_err_and c.from_residual.result c.from_residual.ensures.1 in rw (p.1, p.2) (call_err _ _ _ _ _ _ c.in_err-edited.was c.edit.ensures.call)

@@ -33,18 +33,18 @@ loop-preserved g c = elim c.match-branch-2.branch [
         listed = λ told.
             let comes = subst (λ (held : Content). IsNext held c.loop.after (next.Document doc)) ((c.loop.invariant.reads told).same) (rw w.in-Document.is at (c.in_ok-doc.ensures.found told)) in
             listed_more (g.S.Store.content c.args.store.now) c.loop.after c.loop.docs doc (c.loop.invariant.listed told) past comes;
-        reads = λ told. reads_call _ _ _ _ _ _ _ _ _ _ told (g.met.S.Store.present _ told) (c.loop.invariant.reads told) c.next_listed.ensures.call (c.next_listed.ensures.same told);
-        go_on = call_after _ _ _ _ _ _ _ _ _ _ c.loop.invariant.go_on c.in_ok-doc.ensures.call;
+        reads = λ told. reads_call _ _ _ _ _ _ told (g.met.S.Store.present _ told) (c.loop.invariant.reads told) c.next_listed.ensures.call (c.next_listed.ensures.same told);
+        go_on = call_after _ _ _ _ _ _ c.loop.invariant.go_on c.in_ok-doc.ensures.call;
       })
   | in-Record w ↦
       let past = rw w.in-Record.is at c.in_ok-doc.ensures.past in
       rw (w.docs-is, w.after-is) (record {
         rising = rises_record c.loop.after c.loop.docs w.in-Record.id c.loop.invariant.rising past;
         listed = λ told. listed_record (g.S.Store.content c.args.store.now) c.loop.after c.loop.docs w.in-Record.id (c.loop.invariant.listed told) past;
-        reads = λ told. reads_call _ _ _ _ _ _ _ _ _ _ told (g.met.S.Store.present _ told) (c.loop.invariant.reads told) c.next_listed.ensures.call (c.next_listed.ensures.same told);
-        go_on = call_after _ _ _ _ _ _ _ _ _ _ c.loop.invariant.go_on c.in_ok-doc.ensures.call;
+        reads = λ told. reads_call _ _ _ _ _ _ told (g.met.S.Store.present _ told) (c.loop.invariant.reads told) c.next_listed.ensures.call (c.next_listed.ensures.same told);
+        go_on = call_after _ _ _ _ _ _ c.loop.invariant.go_on c.in_ok-doc.ensures.call;
       })
 ]
 
 pub returns-in-End-clause-reads : goal.returns-in-End-clause-reads
-returns-in-End-clause-reads g c told = reads_call _ _ _ _ _ _ _ _ _ _ told (g.met.S.Store.present _ told) (c.loop.invariant.reads told) c.next_listed.ensures.call (c.next_listed.ensures.same told)
+returns-in-End-clause-reads g c told = reads_call _ _ _ _ _ _ told (g.met.S.Store.present _ told) (c.loop.invariant.reads told) c.next_listed.ensures.call (c.next_listed.ensures.same told)

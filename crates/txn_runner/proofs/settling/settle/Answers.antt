@@ -11,24 +11,24 @@ pub returns-in_err-stage : goal.returns-in_err-stage
 returns-in_err-stage g c =
     let p = err_from_is_err_and c.from_residual.result c.from_residual.ensures.1 in
     rw (p.1, p.2) (record {
-      works = λ told. works_then _ _ _ _ _ _ _ _ _ _ (c.loop-stage.invariant.works told) (c.advance.ensures.works told);
+      works = λ told. works_then _ _ _ _ _ _ _ _ (c.loop-stage.invariant.works told) (c.advance.ensures.works told);
       settled = λ told. tt;
       shown = tt;
       unended = λ told. unended_still _ _ _ _ (search rules) (c.loop-stage.invariant.worth told) (c.in_err-stage.ensures.stays told);
       reason = λ told. (c.in_err-stage.ensures.comes told).cause;
-      cause = caused_before _ _ _ _ _ _ _ c.loop-stage.invariant.made.counted c.in_err-stage.ensures.cause;
+      cause = caused_before _ _ _ _ _ _ c.loop-stage.invariant.made.counted c.in_err-stage.ensures.cause;
       uses = λ told. uses_then (c.loop-stage.invariant.uses told) (c.in_err-stage.ensures.uses told);
       spares = λ told. tt;
-      calls = call_after _ _ _ _ _ _ _ _ _ _ c.loop-stage.invariant.made c.advance.ensures.call;
+      calls = call_after _ _ _ _ _ _ c.loop-stage.invariant.made c.advance.ensures.call;
       fault = λ same. rose_before c.loop-stage.invariant.made.later (c.in_err-stage.ensures.call.fault (ap Err (same_error _ _ same)));
     })
 
 pub loop-stage-preserved : goal.loop-stage-preserved
 loop-stage-preserved g c = record {
-  works = λ told. works_then _ _ _ _ _ _ _ _ _ _ (c.loop-stage.invariant.works told) (c.advance.ensures.works told);
+  works = λ told. works_then _ _ _ _ _ _ _ _ (c.loop-stage.invariant.works told) (c.advance.ensures.works told);
   worth = λ told. (c.in_ok-stage.ensures.comes told).worth;
   uses = λ told. uses_then (c.loop-stage.invariant.uses told) (c.in_ok-stage.ensures.uses told);
-  made = call_after _ _ _ _ _ _ _ _ _ _ c.loop-stage.invariant.made c.advance.ensures.call;
+  made = call_after _ _ _ _ _ _ c.loop-stage.invariant.made c.advance.ensures.call;
   suits = c.in_ok-stage.ensures.suits;
-  shown = end_before _ _ _ _ _ _ _ c.loop-stage.invariant.made.counted c.in_ok-stage.ensures.shown;
+  shown = end_before _ _ _ _ _ _ c.loop-stage.invariant.made.counted c.in_ok-stage.ensures.shown;
 }

@@ -15,7 +15,7 @@ use Rattle.txn_runner.proofs.steps.abort.Goals as goal
 
 pub returns-clause-works : goal.returns-clause-works
 returns-clause-works g c = λ told order.
-    works_edited _ _ _ _ _ _ _ _ _ told (g.met.S.Store.present _ told) c.must_hit.ensures.call _ _ (c.in_ok-must_hit.ensures.made told) (abort_quietly _ _ (c.requires.worth told)) (record_others _ _ (edit.Move state.Aborting state.Aborted None None)) order
+    works_edited _ _ _ _ _ told (g.met.S.Store.present _ told) c.must_hit.ensures.call _ _ (c.in_ok-must_hit.ensures.made told) (abort_quietly _ _ (c.requires.worth told)) (record_others _ _ (edit.Move state.Aborting state.Aborted None None)) order
 
 pub returns-clause-comes : goal.returns-clause-comes
 returns-clause-comes g c = λ told.
@@ -23,7 +23,7 @@ returns-clause-comes g c = λ told.
 
 pub returns-in_err-must_hit-clause-works : goal.returns-in_err-must_hit-clause-works
 returns-in_err-must_hit-clause-works g c = λ told order.
-    works_idly _ _ _ _ _ _ _ _ _ told (g.met.S.Store.present _ told) c.must_hit.ensures.call _ order (c.requires.worth told).sound (c.in_err-must_hit.ensures.left told (abort_hits _ _ (c.requires.worth told)))
+    works_idly _ _ _ _ _ told (g.met.S.Store.present _ told) c.must_hit.ensures.call _ order (c.requires.worth told).sound (c.in_err-must_hit.ensures.left told (abort_hits _ _ (c.requires.worth told)))
 
 pub returns-in_err-must_hit-clause-comes : goal.returns-in_err-must_hit-clause-comes
 returns-in_err-must_hit-clause-comes g c = λ told. let p = err_from_is_err_and c.from_residual.result c.from_residual.ensures.1 in rw (p.1, p.2) (comes_to_nothing _ _ _ (c.in_err-must_hit.ensures.never told (abort_hits _ _ (c.requires.worth told))))
@@ -38,4 +38,4 @@ pub returns-in_err-must_hit-clause-stays : goal.returns-in_err-must_hit-clause-s
 returns-in_err-must_hit-clause-stays g c = λ told. let p = err_from_is_err_and c.from_residual.result c.from_residual.ensures.1 in rw p.1 (same_record _ _ _ (c.in_err-must_hit.ensures.left told (abort_hits _ _ (c.requires.worth told))))
 
 pub returns-clause-shown : goal.returns-clause-shown
-returns-clause-shown g c = end_shown _ _ _ _ _ outcome.Aborted state.Aborting state.Aborted None None refl c.in_ok-must_hit.ensures.hit
+returns-clause-shown g c = end_shown _ _ _ _ outcome.Aborted state.Aborting state.Aborted None None refl c.in_ok-must_hit.ensures.hit

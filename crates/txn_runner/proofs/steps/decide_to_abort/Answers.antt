@@ -11,7 +11,7 @@ use Rattle.txn_runner.proofs.steps.decide_to_abort.Goals as goal
 
 pub returns-clause-works : goal.returns-clause-works
 returns-clause-works g c = λ told.
-    works_given_up _ _ _ _ _ _ _ _ _ told (g.met.S.Store.present _ told) c.record_decision.ensures.call _ _ _ _ _ c.in_ok-record_decision.ensures.call.counted (c.in_ok-record_decision.ensures.made told) (give_up_aborts _ _ c.args.nonce c.args.revno (c.requires.worth told)) (record_others _ _ (edit.Move state.Prepared state.Aborting None None)) refl c.in_ok-record_decision.ensures.added
+    works_given_up _ _ _ _ _ told (g.met.S.Store.present _ told) c.record_decision.ensures.call _ _ _ _ _ c.in_ok-record_decision.ensures.call.counted (c.in_ok-record_decision.ensures.made told) (give_up_aborts _ _ c.args.nonce c.args.revno (c.requires.worth told)) (record_others _ _ (edit.Move state.Prepared state.Aborting None None)) refl c.in_ok-record_decision.ensures.added
 
 pub returns-clause-comes : goal.returns-clause-comes
 returns-clause-comes g c = λ told. comes_edited _ _ _ _ (c.in_ok-record_decision.ensures.made told) (give_up_worth _ _ c.args.nonce c.args.revno (c.requires.worth told))
@@ -21,7 +21,7 @@ returns-clause-uses g c = λ told. uses_within (uses_made (c.in_ok-record_decisi
 
 pub returns-in_err-record_decision-clause-works : goal.returns-in_err-record_decision-clause-works
 returns-in_err-record_decision-clause-works g c = λ told.
-    rw c.in_err-record_decision.ensures.kept (works_idly _ _ _ _ _ _ _ _ _ told (g.met.S.Store.present _ told) c.record_decision.ensures.call _ c.args.order.now.items (c.requires.worth told).sound (c.in_err-record_decision.ensures.left told (apply_hits _ _ c.args.nonce c.args.revno false (c.requires.worth told) state.Aborting None)))
+    rw c.in_err-record_decision.ensures.kept (works_idly _ _ _ _ _ told (g.met.S.Store.present _ told) c.record_decision.ensures.call _ c.args.order.now.items (c.requires.worth told).sound (c.in_err-record_decision.ensures.left told (apply_hits _ _ c.args.nonce c.args.revno false (c.requires.worth told) state.Aborting None)))
 
 pub returns-in_err-record_decision-clause-comes : goal.returns-in_err-record_decision-clause-comes
 returns-in_err-record_decision-clause-comes g c = λ told.

@@ -15,7 +15,7 @@ pub returns-clause-works : goal.returns-clause-works
 returns-clause-works g c = λ told.
     let fits = c.ranges.revno in
     let made = simp to_z-of_z at (rw c.in_ok-revnos.ensures at (c.in_ok-record_decision.ensures.made told)) in
-    works_applied _ _ _ _ _ _ _ _ _ told (g.met.S.Store.present _ told) c.record_decision.ensures.call _ _ _ _ _ c.in_ok-record_decision.ensures.call.counted made (apply_applies _ _ c.args.nonce c.args.revno (c.requires.worth told)) (record_others _ _ (edit.Move state.Prepared state.Applying None (Some (c.args.revno ∷ [])))) refl (simp to_z-of_z at c.in_ok-record_decision.ensures.added)
+    works_applied _ _ _ _ _ told (g.met.S.Store.present _ told) c.record_decision.ensures.call _ _ _ _ _ c.in_ok-record_decision.ensures.call.counted made (apply_applies _ _ c.args.nonce c.args.revno (c.requires.worth told)) (record_others _ _ (edit.Move state.Prepared state.Applying None (Some (c.args.revno ∷ [])))) refl (simp to_z-of_z at c.in_ok-record_decision.ensures.added)
 
 pub returns-clause-comes : goal.returns-clause-comes
 returns-clause-comes g c = λ told.
@@ -35,7 +35,7 @@ returns-clause-suits g c = rw c.only.ensures.only c.after_decision.ensures.suits
 
 pub returns-in_err-record_decision-clause-works : goal.returns-in_err-record_decision-clause-works
 returns-in_err-record_decision-clause-works g c = λ told.
-    rw c.in_err-record_decision.ensures.kept (works_idly _ _ _ _ _ _ _ _ _ told (g.met.S.Store.present _ told) c.record_decision.ensures.call _ c.args.order.now.items (c.requires.worth told).sound (c.in_err-record_decision.ensures.left told (apply_hits _ _ c.args.nonce c.args.revno true (c.requires.worth told) state.Applying (Some c.in_ok-revnos.revnos))))
+    rw c.in_err-record_decision.ensures.kept (works_idly _ _ _ _ _ told (g.met.S.Store.present _ told) c.record_decision.ensures.call _ c.args.order.now.items (c.requires.worth told).sound (c.in_err-record_decision.ensures.left told (apply_hits _ _ c.args.nonce c.args.revno true (c.requires.worth told) state.Applying (Some c.in_ok-revnos.revnos))))
 
 pub returns-in_err-record_decision-clause-comes : goal.returns-in_err-record_decision-clause-comes
 returns-in_err-record_decision-clause-comes g c = λ told.
@@ -51,4 +51,4 @@ pub returns-in_err-record_decision-clause-stays : goal.returns-in_err-record_dec
 returns-in_err-record_decision-clause-stays g c = λ told. let p = err_from_is_err_and c.from_residual-in_err-record_decision.result c.from_residual-in_err-record_decision.ensures.1 in rw p.1 (same_record _ _ _ (c.in_err-record_decision.ensures.left told (apply_hits _ _ c.args.nonce c.args.revno true (c.requires.worth told) state.Applying (Some c.in_ok-revnos.revnos))))
 
 pub returns-clause-shown : goal.returns-clause-shown
-returns-clause-shown g c = on_the_way _ _ _ _ _ _ c.after_decision.ensures.goes_on
+returns-clause-shown g c = on_the_way _ _ _ _ _ c.after_decision.ensures.goes_on

@@ -15,11 +15,11 @@ use Rattle.txn_runner.proofs.steps.draw.Goals as goal
 
 pub returns-in_err-drawn-clause-works : goal.returns-in_err-drawn-clause-works
 returns-in_err-drawn-clause-works g c = λ told order.
-    works_idly _ _ _ _ _ _ _ _ _ told (g.met.S.Store.present _ told) c.edit.ensures.call _ order (c.requires.worth told).sound (c.in_err-drawn.ensures.left told)
+    works_idly _ _ _ _ _ told (g.met.S.Store.present _ told) c.edit.ensures.call _ order (c.requires.worth told).sound (c.in_err-drawn.ensures.left told)
 
 pub returns-in_err-nonce-clause-works : goal.returns-in_err-nonce-clause-works
 returns-in_err-nonce-clause-works g c = λ told order.
-    works_edited _ _ _ _ _ _ _ _ _ told (g.met.S.Store.present _ told) c.edit.ensures.call _ _ (c.in_ok-drawn.ensures.made told) (draw_quietly _ _ (c.requires.worth told)) (nonce_others _ _ edit.DrawNonce) order
+    works_edited _ _ _ _ _ told (g.met.S.Store.present _ told) c.edit.ensures.call _ _ (c.in_ok-drawn.ensures.made told) (draw_quietly _ _ (c.requires.worth told)) (nonce_others _ _ edit.DrawNonce) order
 
 pub returns-in_err-nonce-clause-comes : goal.returns-in_err-nonce-clause-comes
 returns-in_err-nonce-clause-comes g c = λ told.
@@ -30,7 +30,7 @@ returns-in_err-nonce-clause-comes g c = λ told.
 
 pub returns-clause-works : goal.returns-clause-works
 returns-clause-works g c = λ told order.
-    works_edited _ _ _ _ _ _ _ _ _ told (g.met.S.Store.present _ told) c.edit.ensures.call _ _ (c.in_ok-drawn.ensures.made told) (draw_quietly _ _ (c.requires.worth told)) (nonce_others _ _ edit.DrawNonce) order
+    works_edited _ _ _ _ _ told (g.met.S.Store.present _ told) c.edit.ensures.call _ _ (c.in_ok-drawn.ensures.made told) (draw_quietly _ _ (c.requires.worth told)) (nonce_others _ _ edit.DrawNonce) order
 
 pub returns-clause-comes : goal.returns-clause-comes
 returns-clause-comes g c = λ told.

@@ -9,7 +9,7 @@ use Rattle.txn_runner.proofs.steps.look.Goals as goal
 
 pub returns-else-has_room-clause-works : goal.returns-else-has_room-clause-works
 returns-else-has_room-clause-works g c = λ told order.
-    works_idly _ _ _ _ _ _ _ _ _ told (g.met.S.Store.present _ told) c.read_document.ensures.call _ order (c.requires.worth told).sound (c.in_ok-doc.ensures.same told)
+    works_idly _ _ _ _ _ told (g.met.S.Store.present _ told) c.read_document.ensures.call _ order (c.requires.worth told).sound (c.in_ok-doc.ensures.same told)
 
 pub returns-else-has_room-clause-comes : goal.returns-else-has_room-clause-comes
 returns-else-has_room-clause-comes g c = λ told.
@@ -18,7 +18,7 @@ returns-else-has_room-clause-comes g c = λ told.
 
 pub returns-then-has_room-clause-works : goal.returns-then-has_room-clause-works
 returns-then-has_room-clause-works g c = λ told order.
-    works_idly _ _ _ _ _ _ _ _ _ told (g.met.S.Store.present _ told) c.read_document.ensures.call _ order (c.requires.worth told).sound (c.in_ok-doc.ensures.same told)
+    works_idly _ _ _ _ _ told (g.met.S.Store.present _ told) c.read_document.ensures.call _ order (c.requires.worth told).sound (c.in_ok-doc.ensures.same told)
 
 pub returns-then-has_room-clause-comes : goal.returns-then-has_room-clause-comes
 returns-then-has_room-clause-comes g c = λ told.
@@ -28,7 +28,7 @@ returns-then-has_room-clause-comes g c = λ told.
 
 pub returns-in_err-doc-clause-works : goal.returns-in_err-doc-clause-works
 returns-in_err-doc-clause-works g c = λ told order.
-    works_idly _ _ _ _ _ _ _ _ _ told (g.met.S.Store.present _ told) c.read_document.ensures.call _ order (c.requires.worth told).sound (c.in_err-doc.ensures.same told)
+    works_idly _ _ _ _ _ told (g.met.S.Store.present _ told) c.read_document.ensures.call _ order (c.requires.worth told).sound (c.in_err-doc.ensures.same told)
 
 pub returns-in_err-doc-clause-comes : goal.returns-in_err-doc-clause-comes
 returns-in_err-doc-clause-comes g c = λ told. let p = err_from_is_err_and c.from_residual-in_err-doc.result c.from_residual-in_err-doc.ensures.1 in rw (p.1, p.2) (comes_to_nothing _ _ _ (c.in_err-doc.ensures.never told (look_there _ _ _ c.only-op.ensures.only _ (c.requires.worth told))))

@@ -10,7 +10,7 @@ use Rattle.txn_runner.proofs.steps.queue.Goals as goal
 
 pub returns-clause-works : goal.returns-clause-works
 returns-clause-works g c = λ told order.
-    works_edited _ _ _ _ _ _ _ _ _ told (g.met.S.Store.present _ told) c.must_hit.ensures.call _ _ (rw c.in_ok-copy.ensures at (c.in_ok-must_hit.ensures.made told)) (queue_quietly _ _ _ c.only.ensures.only _ (c.requires.worth told)) (add_others _ _ _ (token c.args.txn.now.id c.args.nonce)) order
+    works_edited _ _ _ _ _ told (g.met.S.Store.present _ told) c.must_hit.ensures.call _ _ (rw c.in_ok-copy.ensures at (c.in_ok-must_hit.ensures.made told)) (queue_quietly _ _ _ c.only.ensures.only _ (c.requires.worth told)) (add_others _ _ _ (token c.args.txn.now.id c.args.nonce)) order
 
 pub returns-clause-comes : goal.returns-clause-comes
 returns-clause-comes g c = λ told.
@@ -18,7 +18,7 @@ returns-clause-comes g c = λ told.
 
 pub returns-in_err-must_hit-clause-works : goal.returns-in_err-must_hit-clause-works
 returns-in_err-must_hit-clause-works g c = λ told order.
-    works_idly _ _ _ _ _ _ _ _ _ told (g.met.S.Store.present _ told) c.must_hit.ensures.call _ order (c.requires.worth told).sound (c.in_err-must_hit.ensures.left told (rw c.in_ok-copy.ensures (queue_hits _ _ _ c.only.ensures.only _ (c.requires.worth told))))
+    works_idly _ _ _ _ _ told (g.met.S.Store.present _ told) c.must_hit.ensures.call _ order (c.requires.worth told).sound (c.in_err-must_hit.ensures.left told (rw c.in_ok-copy.ensures (queue_hits _ _ _ c.only.ensures.only _ (c.requires.worth told))))
 
 pub returns-in_err-must_hit-clause-comes : goal.returns-in_err-must_hit-clause-comes
 returns-in_err-must_hit-clause-comes g c = λ told. let p = err_from_is_err_and c.from_residual-in_err-must_hit.result c.from_residual-in_err-must_hit.ensures.1 in rw (p.1, p.2) (comes_to_nothing _ _ _ (c.in_err-must_hit.ensures.never told (rw c.in_ok-copy.ensures (queue_hits _ _ _ c.only.ensures.only _ (c.requires.worth told)))))

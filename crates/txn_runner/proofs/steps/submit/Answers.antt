@@ -13,8 +13,8 @@ pub returns-clause-works : goal.returns-clause-works
 returns-clause-works g c = λ told order.
     let calm = c.requires.calm told in
     ⊎_elim
-    (λ made. works_edited _ _ _ _ _ _ _ _ _ told (g.met.S.Store.present _ told) c.may_hit.ensures.call _ _ made (submit_quietly _ calm c.args.txn.now) (record_others _ _ (edit.InsertRecord (preparing_record c.args.txn.now))) order)
-    (λ same. works_idly _ _ _ _ _ _ _ _ _ told (g.met.S.Store.present _ told) c.may_hit.ensures.call _ order calm.sound same)
+    (λ made. works_edited _ _ _ _ _ told (g.met.S.Store.present _ told) c.may_hit.ensures.call _ _ made (submit_quietly _ calm c.args.txn.now) (record_others _ _ (edit.InsertRecord (preparing_record c.args.txn.now))) order)
+    (λ same. works_idly _ _ _ _ _ told (g.met.S.Store.present _ told) c.may_hit.ensures.call _ order calm.sound same)
     (made_or_left c.may_hit.result _ _ _ (rw c.in_ok-rec.ensures at (c.may_hit.ensures.made told)) (c.may_hit.ensures.left told))
 
 pub returns-clause-calm : goal.returns-clause-calm

@@ -12,7 +12,7 @@ pub returns-clause-works : goal.returns-clause-works
 returns-clause-works g c = λ told order.
     let fits = c.ranges.revno in
     let made = simp to_z-of_z at (rw (c.in_ok-copy.ensures, c.in_ok-update.ensures) at (c.in_ok-may_hit.ensures.made told)) in
-    works_edited _ _ _ _ _ _ _ _ _ told (g.met.S.Store.present _ told) c.may_hit.ensures.call _ _ made (update_quietly _ _ _ c.only-op.ensures.only _ _ _ c.update_of.ensures (c.requires.worth told)) (update_others _ _ _ c.args.revno (token c.args.txn.now.id c.args.nonce) c.update_of.result.now) order
+    works_edited _ _ _ _ _ told (g.met.S.Store.present _ told) c.may_hit.ensures.call _ _ made (update_quietly _ _ _ c.only-op.ensures.only _ _ _ c.update_of.ensures (c.requires.worth told)) (update_others _ _ _ c.args.revno (token c.args.txn.now.id c.args.nonce) c.update_of.result.now) order
 
 pub returns-clause-comes : goal.returns-clause-comes
 returns-clause-comes g c = λ told.
@@ -22,7 +22,7 @@ returns-clause-comes g c = λ told.
 
 pub returns-in_err-may_hit-clause-works : goal.returns-in_err-may_hit-clause-works
 returns-in_err-may_hit-clause-works g c = λ told order.
-    works_idly _ _ _ _ _ _ _ _ _ told (g.met.S.Store.present _ told) c.may_hit.ensures.call _ order (c.requires.worth told).sound (c.in_err-may_hit.ensures.left told)
+    works_idly _ _ _ _ _ told (g.met.S.Store.present _ told) c.may_hit.ensures.call _ order (c.requires.worth told).sound (c.in_err-may_hit.ensures.left told)
 
 pub returns-clause-uses : goal.returns-clause-uses
 returns-clause-uses g c = λ told. let fits = c.ranges.revno in uses_within (uses_made (simp to_z-of_z at (rw (c.in_ok-copy.ensures, c.in_ok-update.ensures) at (c.in_ok-may_hit.ensures.made told))) (uses_update _ _ c.args.revno (token c.args.txn.now.id c.args.nonce) c.update_of.result.now)) (omega arith) (omega arith)

@@ -1,8 +1,0 @@
-use Rattle.std.proofs.Common.{◌≡◌, ◌++◌, drop}
-use Rattle.std.specs.List.{flat_map}
-use Rattle.txn_key.specs.Documents.{pairs_of}
-use Rattle.txn_script.specs.Printing.{document_line}
-use Rattle.txn_cli.proofs.documents.push_lines.Given as goal
-
-abbrev pub invariant-loop-doc : goal.invariant-loop-doc
-invariant-loop-doc l = l.lines.items ++ flat_map document_line (pairs_of (drop l.doc-index l.docs)) ≡ l.fn.lines.items ++ flat_map document_line (pairs_of l.docs)

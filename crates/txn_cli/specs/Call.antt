@@ -1,0 +1,149 @@
+-- How a call ended: what was done of a script, what the store holds, and what was written.
+use Rattle.std.specs.Prelude.{◌≡◌, ◌≤◌, ◌+◌, ◌++◌, ◌⊎◌, ℕ, Bool, List, Option, Some, None}
+use Rattle.store_trait.specs.Contents.{Content}
+use Rattle.store_trait.specs.declared.store.Store.{Ghosts}
+use Rattle.txn_io.specs.Lines.{IsPartTaken}
+use Rattle.txn_play.specs.Leaving.{HasLeft, Holding, Stays}
+use Rattle.txn_play.specs.Progress.{Progress, opening}
+use Rattle.txn_play.specs.declared.answer.Answer.{Answer}
+use Rattle.txn_play.specs.declared.refusal.Refusal.{Refusal}
+use Rattle.txn_play.specs.declared.run.Run.{Run}
+use Rattle.txn_cli.specs.Faults.{NoneSpent, refusal_in}
+use Rattle.txn_cli.specs.Output.{Writing, Wrote, WroteOrFailed, WrotePart, answer_text, answers_text, fault_text}
+use Rattle.txn_cli.specs.Script.{DoesNext, IsPlayed, PlaysTo, Reached, Refuses, after_lines, next_may_run, next_of}
+use Rattle.txn_cli.specs.declared.fault.Fault.{Fault}
+use Rattle.txn_cli.specs.declared.fault.Fault.TheVariants as fault
+
+-- what a source had as a call began, and what it has left
+pub record Taken : Type 0 where
+  pub script : List ℕ
+  pub untaken : List ℕ
+
+abbrev pub taken : List ℕ → List ℕ → Taken
+taken script untaken = record { script = script; untaken = untaken }
+
+-- what a store tells as a call ended, with the Runs
+pub record Held : Type 0 where
+  pub content : Content
+  pub trail : ℕ → Content
+  pub calls : ℕ
+  pub runs : List Run
+
+abbrev pub held : {S : Type 0} → Ghosts S → S → List Run → Held
+held store s runs =
+    record { content = store.content s; trail = store.trail s; calls = store.calls s; runs = runs }
+
+-- a script as a call begins over a store
+abbrev pub start : {S : Type 0} → Ghosts S → S → Progress
+start store s = opening (store.content s) (store.calls s)
+
+-- the store and the Runs are as this progress has them
+pub record Holds (end : Held) (p : Progress) : Type 0 where
+  pub content : end.content ≡ p.content
+  pub calls : end.calls ≡ p.calls
+  pub runs : end.runs ≡ p.runs
+
+-- Every line of a script was done, over a store that holds this now, with these Runs; and what the lines
+-- print was written, in order.
+pub record HasPlayed (script : List ℕ) (start : Progress) (end : Held) (w : Writing) : Type 0 where
+  pub reached : Reached
+  pub plays : IsPlayed script end.trail start reached
+  pub holds : Holds end reached.last
+  pub writes : Wrote w (answers_text reached.answers)
+
+-- ---- what a refusal leaves
+
+abbrev pub holding_in : Held → Holding
+holding_in end = record { content = end.content; runs = end.runs }
+
+abbrev pub holding_at : Progress → Holding
+holding_at p = record { content = p.content; runs = p.runs }
+
+abbrev pub LeftAs : Option Refusal → Bool → Progress → Held → Type 0
+LeftAs None may_run p end = Stays (holding_at p) (holding_in end)
+LeftAs (Some why) may_run p end =
+    HasLeft may_run p.waiting end.trail (holding_at p) (holding_in end) why
+
+-- What a refusal leaves behind the last line that was done. (By the output: see what was written.)
+abbrev pub LeftIn : Bool → Progress → Held → Fault → Type 0
+LeftIn may_run p end fault.Output = ⊥
+LeftIn may_run p end why = LeftAs (refusal_in why) may_run p end
+
+-- The refusal of a line names the next one, and the text by which it is refused there; bad words come
+-- before any line. Where the input failed, no more than a part of the next line was taken: each line that
+-- came whole was done.
+abbrev pub IsOfNext : Taken → ℕ → Progress → Fault → Type 0
+IsOfNext taken n p (fault.Line number text) =
+    (number ≡ n + 1) × Refuses (next_of n taken.script) p text
+IsOfNext taken n p fault.Words = n ≡ 0
+IsOfNext taken n p fault.Input = IsPartTaken (after_lines n taken.script) taken.untaken
+IsOfNext taken n p _ = Unit {0}
+
+-- A refusal comes behind the first lines of a script, and this is what it leaves.
+pub record Leaves (taken : Taken) (reached : Reached) (end : Held) (why : Fault) : Type 0 where
+  pub next : IsOfNext taken reached.count reached.last why
+  pub left : LeftIn (next_may_run (next_of reached.count taken.script)) reached.last end why
+
+-- What comes next was done, and the store holds what it left; its answer wasn't written, or not whole.
+pub record HasDoneNext (script : List ℕ) (reached : Reached) (end : Held) : Type 0 where
+  pub next : Progress
+  pub answer : Answer
+  pub does : DoesNext script reached.count reached.last next answer
+  pub holds : Holds end next
+
+-- the output failed before all of that was written
+pub record HasCut (script : List ℕ) (reached : Reached) (end : Held) (w : Writing) : Type 0 where
+  pub done : HasDoneNext script reached end
+  pub part : WrotePart w (answers_text reached.answers) (answer_text done.answer)
+
+-- memory was wanting: for what comes next, or for what is to be printed of it
+abbrev pub LeavesShort : Taken → Reached → Held → Type 0
+LeavesShort taken reached end =
+    Leaves taken reached end fault.OutOfMemory ⊎ HasDoneNext taken.script reached end
+
+-- Another refusal came, and the output failed before all of its last line was written.
+pub record HasCutOff (Caused : Fault → Type 0) (taken : Taken) (reached : Reached) (end : Held)
+    (w : Writing) : Type 0 where
+  pub why : Fault
+  pub caused : Caused why
+  pub leaves : Leaves taken reached end why
+  pub part : WrotePart w (answers_text reached.answers) (fault_text why)
+
+-- How a call that was refused ends, behind the lines that were done: with the last line of the refusal, or,
+-- where memory was wanting and the output failed too, with some first bytes of it; where the output failed,
+-- with some first bytes of what was to be written.
+abbrev pub EndsWith : (Fault → Type 0) → Taken → Reached → Held → Writing → Fault → Type 0
+EndsWith Caused taken reached end w fault.Output =
+    HasCut taken.script reached end w ⊎ HasCutOff Caused taken reached end w
+EndsWith Caused taken reached end w fault.OutOfMemory =
+    LeavesShort taken reached end
+    × WroteOrFailed w (answers_text reached.answers) (fault_text fault.OutOfMemory) (Caused fault.Output)
+EndsWith Caused taken reached end w why =
+    Leaves taken reached end why × Wrote w (answers_text reached.answers ++ fault_text why)
+
+-- Some first lines of a script were done, and the call ended with a refusal: the store and the Runs are as
+-- it leaves them, no nonce or number was wanting, and this was written.
+pub record HasRefused (Caused : Fault → Type 0) (taken : Taken) (start : Progress) (end : Held)
+    (w : Writing) (why : Fault) : Type 0 where
+  pub reached : Reached
+  pub plays : PlaysTo taken.script end.trail start reached
+  pub later : reached.last.calls ≤ end.calls
+  pub unspent : NoneSpent why
+  pub ends : EndsWith Caused taken reached end w why
+
+-- The same before the refusal is told: nothing was written but what the lines print; where the output
+-- failed, some first bytes of what comes next prints.
+abbrev pub StopsWith : Taken → Reached → Held → Writing → Fault → Type 0
+StopsWith taken reached end w fault.Output = HasCut taken.script reached end w
+StopsWith taken reached end w fault.OutOfMemory =
+    LeavesShort taken reached end × Wrote w (answers_text reached.answers)
+StopsWith taken reached end w why =
+    Leaves taken reached end why × Wrote w (answers_text reached.answers)
+
+pub record HasStopped (taken : Taken) (start : Progress) (end : Held) (w : Writing) (why : Fault)
+    : Type 0 where
+  pub reached : Reached
+  pub plays : PlaysTo taken.script end.trail start reached
+  pub later : reached.last.calls ≤ end.calls
+  pub unspent : NoneSpent why
+  pub stops : StopsWith taken reached end w why

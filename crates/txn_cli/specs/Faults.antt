@@ -1,0 +1,129 @@
+-- Why a line was not done, and why a call ended before the end of its script.
+use Rattle.std.specs.Prelude.{◌≡◌, ◌≤◌, ℕ, Bool, false, IsTrue, Option, Some, None, IfSome, Result, IsErrOf, codes}
+use Rattle.store_trait.specs.Calls.{Rose}
+use Rattle.store_trait.specs.declared.store.Store.{Ghosts}
+use Rattle.txn_io.specs.declared.lines.LineFault.{LineFault}
+use Rattle.txn_io.specs.declared.lines.LineFault.TheVariants as line_fault
+use Rattle.txn_script.specs.Faults.{fault_text as script_text}
+use Rattle.txn_script.specs.declared.fault.ScriptFault.{ScriptFault}
+use Rattle.txn_script.specs.declared.fault.ScriptFault.TheVariants as script_fault
+use Rattle.txn_play.specs.Refusals.{HasCause, HasReason, IsUnspent}
+use Rattle.txn_play.specs.declared.refusal.Refusal.{Refusal}
+use Rattle.txn_play.specs.declared.refusal.Refusal.TheVariants as refusal
+use Rattle.txn_cli.specs.declared.fault.Fault.{Fault}
+use Rattle.txn_cli.specs.declared.fault.Fault.TheVariants as fault
+use Rattle.txn_cli.specs.declared.stop.Stop.{Stop}
+use Rattle.txn_cli.specs.declared.stop.Stop.TheVariants as stop
+
+abbrev pub status_of : Fault → ℕ
+status_of fault.Words = 2
+status_of (fault.Line _ _) = 3
+status_of fault.Store = 5
+status_of fault.Input = 6
+status_of fault.Output = 7
+status_of fault.OutOfMemory = 8
+status_of (fault.Spent _) = 9
+status_of (fault.Broken _) = 11
+status_of (fault.Repeated _) = 11
+
+-- ---- a line's refusal
+
+-- how what stopped a line ends the call, where that line has the number
+abbrev pub fault_of_refusal : ℕ → Refusal → Fault
+fault_of_refusal number refusal.NotBuilt = fault.Line number (script_text script_fault.NotBuilt)
+fault_of_refusal number refusal.Store = fault.Store
+fault_of_refusal number refusal.OutOfMemory = fault.OutOfMemory
+fault_of_refusal number (refusal.Spent error) = fault.Spent error
+fault_of_refusal number (refusal.Broken error) = fault.Broken error
+fault_of_refusal number (refusal.Repeated id) = fault.Repeated id
+
+abbrev pub fault_of_stop : ℕ → Stop → Fault
+fault_of_stop number (stop.Misread why) = fault.Line number (script_text why)
+fault_of_stop number (stop.Refused why) = fault_of_refusal number why
+fault_of_stop number stop.Output = fault.Output
+
+-- how a line stops that was read as no statement
+abbrev pub stop_of_reading : ScriptFault → Stop
+stop_of_reading script_fault.OutOfMemory = stop.Refused refusal.OutOfMemory
+stop_of_reading why = stop.Misread why
+
+-- how a line that wasn't read ends the call
+abbrev pub fault_of_line : ℕ → LineFault → Fault
+fault_of_line number line_fault.ReadFault = fault.Input
+fault_of_line number line_fault.TooLong = fault.Line number (codes "too long")
+fault_of_line number line_fault.ScriptTooLong = fault.Line number (codes "script too long")
+fault_of_line number line_fault.OutOfMemory = fault.OutOfMemory
+
+-- ---- the statement's refusal behind it, if there is one
+
+abbrev pub refusal_in_stop : Stop → Option Refusal
+refusal_in_stop (stop.Misread _) = None
+refusal_in_stop (stop.Refused why) = Some why
+refusal_in_stop stop.Output = None
+
+abbrev pub refusal_in : Fault → Option Refusal
+refusal_in fault.Words = None
+refusal_in (fault.Line _ _) = None
+refusal_in fault.Store = Some refusal.Store
+refusal_in fault.Input = None
+refusal_in fault.Output = None
+refusal_in fault.OutOfMemory = Some refusal.OutOfMemory
+refusal_in (fault.Spent error) = Some (refusal.Spent error)
+refusal_in (fault.Broken error) = Some (refusal.Broken error)
+refusal_in (fault.Repeated id) = Some (refusal.Repeated id)
+
+-- ---- why a call ended
+
+-- a count of faults before a call and after it
+pub record Counts : Type 0 where
+  pub before : ℕ
+  pub after : ℕ
+
+abbrev pub counts : ℕ → ℕ → Counts
+counts before after = record { before = before; after = after }
+
+abbrev pub HasRisen : Counts → Type 0
+HasRisen counts = Rose counts.before counts.after
+
+-- a count never falls, and a call fails so only where it rose
+pub record FailsOnly {T E : Type 0} (counts : Counts) (result : Result T E) (failed : E) : Type 0 where
+  pub later : counts.before ≤ counts.after
+  pub fault : IsErrOf result failed → HasRisen counts
+
+-- what a call's refusal is judged by: whether its words are in the grammar, the store before and after it,
+-- and how often input and output had failed
+pub record Circumstances (S : Type 0) : Type 0 where
+  pub in_grammar : Bool
+  pub old : S
+  pub new : S
+  pub input : Counts
+  pub output : Counts
+
+abbrev pub circumstances : {S : Type 0} → Bool → S → S → Counts → Counts → Circumstances S
+circumstances in_grammar old new input output =
+    record { in_grammar = in_grammar; old = old; new = new; input = input; output = output }
+
+-- The words are out of the grammar; the store, the input or the output failed in this call. Over any store
+-- its last answer shows why nonces or numbers are used up, or what broke.
+abbrev pub IsShown : {S : Type 0} → Ghosts S → Circumstances S → Fault → Type 0
+IsShown store call fault.Words = call.in_grammar ≡ false
+IsShown store call fault.Store = Rose (store.faults call.old) (store.faults call.new)
+IsShown store call fault.Input = HasRisen call.input
+IsShown store call fault.Output = HasRisen call.output
+IsShown store call why = IfSome (refusal_in why) (HasCause store call.old call.new)
+
+-- Why a call was refused. Over a store that tells, nonces and numbers are used up where it says so, and
+-- nothing is ever broken.
+pub record IsCaused {S : Type 0} (store : Ghosts S) (call : Circumstances S) (why : Fault) : Type 0 where
+  pub shown : IsShown store call why
+  pub reason : IsTrue store.tells → IfSome (refusal_in why) (HasReason (store.content call.new))
+
+-- neither a nonce nor a number was wanting
+abbrev pub NoneSpent : Fault → Type 0
+NoneSpent why = IfSome (refusal_in why) IsUnspent
+
+-- nothing failed
+pub record NothingFailed {S : Type 0} (store : Ghosts S) (call : Circumstances S) : Type 0 where
+  pub store : Rose (store.faults call.old) (store.faults call.new) → ⊥
+  pub input : HasRisen call.input → ⊥
+  pub output : HasRisen call.output → ⊥

@@ -1,0 +1,98 @@
+-- What the program prints, and what was written of it.
+use Rattle.std.specs.Prelude.{◌≡◌, ◌⊎◌, ℕ, Bool, IsTrue, List, [], ◌∷◌, ◌++◌, codes}
+use Rattle.std.specs.Fmt.{decimal}
+use Rattle.std.specs.List.{flat_map}
+use Rattle.std.specs.FinMap.{entries}
+use Rattle.txn_io.specs.Pour.{IsPartPut}
+use Rattle.txn_io.specs.declared.sink.Sink.{Ghosts}
+use Rattle.txn_key.specs.Documents.{Docs}
+use Rattle.txn_key.specs.Ids.{id_text, token_text}
+use Rattle.txn_record.specs.declared.state.State.{State}
+use Rattle.txn_record.specs.declared.state.State.TheVariants as state
+use Rattle.txn_script.specs.Printing.{document_line, key_text}
+use Rattle.txn_play.specs.declared.answer.Answer.{Answer}
+use Rattle.txn_play.specs.declared.answer.Answer.TheVariants as answer
+use Rattle.txn_play.specs.declared.answer.RecordState.{RecordState}
+use Rattle.txn_cli.specs.declared.fault.Fault.{Fault}
+use Rattle.txn_cli.specs.declared.fault.Fault.TheVariants as fault
+use Rattle.txn_runner.specs.declared.error.StepError.{StepError}
+use Rattle.txn_runner.specs.declared.error.StepError.TheVariants as step
+
+abbrev pub line : List ℕ → List ℕ
+line text = text ++ 10 ∷ []
+
+-- ---- the lines of an answer
+
+-- a line for each document, in the order of keys
+abbrev pub documents_text : Docs → List ℕ
+documents_text docs = flat_map document_line (entries docs)
+
+abbrev pub state_word : State → List ℕ
+state_word state.Preparing = codes "preparing"
+state_word state.Prepared = codes "prepared"
+state_word state.Aborting = codes "aborting"
+state_word state.Applying = codes "applying"
+state_word state.Aborted = codes "aborted"
+state_word state.Applied = codes "applied"
+
+-- the line of a transaction: its id, a blank and the word of its record's state
+abbrev pub state_line : RecordState → List ℕ
+state_line it = line (id_text it.id ++ codes " " ++ state_word it.state)
+
+abbrev pub answer_text : Answer → List ℕ
+answer_text answer.Nothing = []
+answer_text (answer.States states) = flat_map state_line states
+answer_text (answer.Documents docs) = documents_text docs
+
+abbrev pub answers_text : List Answer → List ℕ
+answers_text answers = flat_map answer_text answers
+
+-- ---- the last line of a refusal
+
+abbrev pub usage_text : List ℕ
+usage_text =
+    codes "usage: txn run [--db FILE] [--log FILE] | txn race [--log FILE] | txn grind N [--db FILE] [--log FILE]\n"
+
+abbrev pub step_text : StepError → List ℕ
+step_text step.StoreFault = codes "store fault\n"
+step_text step.NoncesSpent = codes "nonces spent\n"
+step_text (step.RevnoSpent key) = line (codes "revno spent at doc " ++ key_text key)
+step_text (step.Lost token) = line (codes "lost " ++ token_text token)
+step_text (step.Clash id at) = line (codes "clash " ++ id_text id)
+step_text step.OutOfMemory = codes "out of memory\n"
+
+-- a fault of the output has none
+abbrev pub fault_text : Fault → List ℕ
+fault_text fault.Words = usage_text
+fault_text (fault.Line number text) = line (codes "line " ++ decimal number ++ codes ": " ++ text)
+fault_text fault.Store = codes "store fault\n"
+fault_text fault.Input = codes "input fault\n"
+fault_text fault.Output = []
+fault_text fault.OutOfMemory = codes "out of memory\n"
+fault_text (fault.Spent error) = step_text error
+fault_text (fault.Broken error) = step_text error
+fault_text (fault.Repeated id) = line (codes "clash " ++ id_text id)
+
+-- ---- what was written
+
+-- what a sink tells that was written before a call and after it
+pub record Writing : Type 0 where
+  pub tells : Bool
+  pub before : List ℕ
+  pub after : List ℕ
+
+abbrev pub writing : {O : Type 0} → Ghosts O → O → O → Writing
+writing sink old new = record { tells = sink.tells; before = sink.written old; after = sink.written new }
+
+-- the piece was written
+abbrev pub Wrote : Writing → List ℕ → Type 0
+Wrote w piece = IsTrue w.tells → w.after ≡ w.before ++ piece
+
+-- some first bytes of it were, behind those that came before it
+abbrev pub WrotePart : Writing → List ℕ → List ℕ → Type 0
+WrotePart w first piece = IsTrue w.tells → IsPartPut (w.before ++ first) w.after piece
+
+-- it was written whole, or some first bytes of it and the output failed
+abbrev pub WroteOrFailed : Writing → List ℕ → List ℕ → Type 0 → Type 0
+WroteOrFailed w first piece failed = IsTrue w.tells
+    → (w.after ≡ w.before ++ (first ++ piece)) ⊎ (IsPartPut (w.before ++ first) w.after piece × failed)

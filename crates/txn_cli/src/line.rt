@@ -1,0 +1,125 @@
+//! One line of a script: what it states is done, and what that answers is written.
+
+ghost use Rattle.std.specs.Prelude.{◌≡◌, ◌≢◌, [], Err, true, false, IsTrue, OnOk, IfErr};
+ghost use Rattle.txn_cli.specs.Faults.{FailsOnly, counts};
+ghost use Rattle.txn_cli.specs.Line.{HasDone, HasDoneLine, HasStoppedLine, LeftBy, RunsFirst, RunsWaiting, StopsFor, performing, running, running_first};
+ghost use Rattle.txn_cli.specs.Output.{writing};
+ghost use Rattle.txn_play.specs.Progress.{Does, is_allowed, lets_run};
+ghost use Rattle.txn_play.specs.Sessions.{IsKept, Stands, at};
+ghost use Rattle.txn_play.specs.declared.refusal.Refusal.TheVariants.{NotBuilt};
+
+use crate::output::write_answer;
+use crate::stop::Stop;
+use std::alloc::Global;
+use store_trait::Store;
+use txn_io::Sink;
+use txn_play::Session;
+use txn_script::{Statement, read_line};
+
+/// Does what a line states, and writes what that answers. A batch that waits is run first, as a statement of
+/// its own, where the line lets it.
+pub fn play_line<S: Store, O: Sink>(
+    alloc: Global,
+    session: &mut Session<S>,
+    output: &mut O,
+    line: &[u8],
+) -> Result<(), Stop>
+    requires stands { Stands S.Store session.old }
+    ensures done { IsTrue S.tells → OnOk result
+        (HasDoneLine S.Store line.now session.old session.new (writing O.Sink output.old output.new)) }
+    ensures stopped { IsTrue S.tells → IfErr result
+        (HasStoppedLine S.Store line.now session.old session.new (writing O.Sink output.old output.new)) }
+    ensures caused { IfErr result (StopsFor S.Store session.old session.new) }
+    ensures kept { IsKept S.Store session.old session.new result }
+    ensures output { FailsOnly (counts (O.faults output.old) (O.faults output.new)) result Stop.Output }
+{
+    match read_line(alloc, line) {
+        Ok(None) => Ok(()),
+        Ok(Some(statement)) => {
+            run_first(alloc, session, output, &statement)?;
+            play_statement(alloc, session, output, statement)
+        }
+        Err(why) => Err(Stop::misread(why)),
+    }
+}
+
+/// Runs a batch that waits, where the statement lets it run first.
+fn run_first<S: Store, O: Sink>(
+    alloc: Global,
+    session: &mut Session<S>,
+    output: &mut O,
+    statement: &Statement,
+) -> Result<(), Stop>
+    requires stands { Stands S.Store session.old }
+    ensures done { IsTrue S.tells → OnOk result (HasDone S.Store (RunsFirst (lets_run statement.now))
+        session.old session.new (writing O.Sink output.old output.new)) }
+    ensures left { IsTrue S.tells → IfErr result (LeftBy S.Store (running_first (lets_run statement.now))
+        session.old session.new (writing O.Sink output.old output.new)) }
+    ensures cleared { lets_run statement.now ≡ true → OnOk result (session.new.batch ≡ []) }
+    ensures refused { result ≡ Err (Stop.Refused NotBuilt) →
+        (lets_run statement.now ≡ true) × (session.old.was_empty ≡ false) }
+    ensures caused { IfErr result (StopsFor S.Store session.old session.new) }
+    ensures kept { IsKept S.Store session.old session.new result }
+    ensures output { FailsOnly (counts (O.faults output.old) (O.faults output.new)) result Stop.Output }
+{
+    if lets_run(statement) {
+        run_waiting(alloc, session, output)
+    } else {
+        Ok(())
+    }
+}
+
+/// Whether a statement first lets a batch run that waits.
+fn lets_run(statement: &Statement) -> bool
+    ensures { result ≡ lets_run statement.now }
+{
+    matches!(statement, Statement::Show)
+}
+
+/// Runs the batch, where one waits, and writes how its records stand.
+pub fn run_waiting<S: Store, O: Sink>(
+    alloc: Global,
+    session: &mut Session<S>,
+    output: &mut O,
+) -> Result<(), Stop>
+    requires stands { Stands S.Store session.old }
+    ensures done { IsTrue S.tells → OnOk result (HasDone S.Store (RunsWaiting session.old.batch)
+        session.old session.new (writing O.Sink output.old output.new)) }
+    ensures left { IsTrue S.tells → IfErr result (LeftBy S.Store running
+        session.old session.new (writing O.Sink output.old output.new)) }
+    ensures cleared { OnOk result (session.new.batch ≡ []) }
+    ensures refused { result ≡ Err (Stop.Refused NotBuilt) →
+        (session.old.was_empty ≡ false) × (session.old.batch ≢ []) }
+    ensures caused { IfErr result (StopsFor S.Store session.old session.new) }
+    ensures kept { IsKept S.Store session.old session.new result }
+    ensures output { FailsOnly (counts (O.faults output.old) (O.faults output.new)) result Stop.Output }
+{
+    if session.batch.is_empty() {
+        return Ok(());
+    }
+    let answer = session.go(alloc)?;
+    write_answer(alloc, output, &answer)
+}
+
+/// Does a statement, and writes what it answers.
+fn play_statement<S: Store, O: Sink>(
+    alloc: Global,
+    session: &mut Session<S>,
+    output: &mut O,
+    statement: Statement,
+) -> Result<(), Stop>
+    requires stands { Stands S.Store session.old }
+    requires cleared { lets_run statement ≡ true → IsTrue session.old.was_empty → session.old.batch ≡ [] }
+    ensures done { IsTrue S.tells → OnOk result (HasDone S.Store (Does statement)
+        session.old session.new (writing O.Sink output.old output.new)) }
+    ensures left { IsTrue S.tells → IfErr result (LeftBy S.Store (performing statement)
+        session.old session.new (writing O.Sink output.old output.new)) }
+    ensures refused { IsTrue S.tells → result ≡ Err (Stop.Refused NotBuilt) →
+        is_allowed (at S.Store session.old) statement ≡ false }
+    ensures caused { IfErr result (StopsFor S.Store session.old session.new) }
+    ensures kept { IsKept S.Store session.old session.new result }
+    ensures output { FailsOnly (counts (O.faults output.old) (O.faults output.new)) result Stop.Output }
+{
+    let answer = session.perform(alloc, statement)?;
+    write_answer(alloc, output, &answer)
+}

@@ -1,0 +1,9 @@
+pub mod BatchRuns
+pub mod Batches
+pub mod Causing
+pub mod IndexLaws
+pub mod OnlyReading
+pub mod Opening
+pub mod OwnOperations
+pub mod Runs
+pub mod Sessions

@@ -1,0 +1,63 @@
+-- Why a statement is refused.
+use Rattle.std.specs.Prelude.{◌≤◌, IfErr, IsErrOf, IsTrue, Result, length, ℕ}
+use Rattle.store_trait.specs.Contents.{Content}
+use Rattle.store_trait.specs.Edits.{nonce_limit}
+use Rattle.store_trait.specs.declared.store.Store.{Ghosts}
+use Rattle.store_trait.specs.declared.store.StoreError.{StoreError}
+use Rattle.store_trait.specs.declared.store.StoreError.TheVariants as store_error
+use Rattle.store_laws.specs.View.{counter}
+use Rattle.txn_runner.specs.Causes.{LastShows, ShowsClash, ShowsNoNonce, ShowsRepeated, ShowsSpentRevno}
+use Rattle.txn_runner.specs.Settling.{IsRevnoSpent}
+use Rattle.txn_runner.specs.declared.error.StepError.{StepError}
+use Rattle.txn_runner.specs.declared.error.StepError.TheVariants as step
+use Rattle.txn_play.specs.declared.refusal.Refusal.{Refusal}
+use Rattle.txn_play.specs.declared.refusal.Refusal.TheVariants as refusal
+
+-- how a store's refusal refuses a statement
+abbrev pub refusal_of_store : StoreError → Refusal
+refusal_of_store store_error.Failed = refusal.Store
+refusal_of_store store_error.OutOfMemory = refusal.OutOfMemory
+
+-- how the refusal of a step does
+abbrev pub refusal_of_step : StepError → Refusal
+refusal_of_step step.StoreFault = refusal.Store
+refusal_of_step step.OutOfMemory = refusal.OutOfMemory
+refusal_of_step step.NoncesSpent = refusal.Spent step.NoncesSpent
+refusal_of_step (step.RevnoSpent key) = refusal.Spent (step.RevnoSpent key)
+refusal_of_step (step.Lost token) = refusal.Broken (step.Lost token)
+refusal_of_step (step.Clash id at) = refusal.Broken (step.Clash id at)
+
+-- the refusals that running a batch may end with
+abbrev pub IsOfRun : Refusal → Type 0
+IsOfRun refusal.NotBuilt = ⊥
+IsOfRun _ = Unit {0}
+
+-- neither a nonce nor a number was wanting
+abbrev pub IsUnspent : Refusal → Type 0
+IsUnspent (refusal.Spent _) = ⊥
+IsUnspent _ = Unit {0}
+
+-- nonces, or the numbers of a document, are used up
+abbrev pub IsUsedUp : Content → StepError → Type 0
+IsUsedUp c step.NoncesSpent = nonce_limit ≤ counter c
+IsUsedUp c (step.RevnoSpent key) = IsRevnoSpent c key
+IsUsedUp c _ = ⊥
+
+-- Why the run of a batch may be refused, over a store that tells what it holds: it is never that a
+-- record was missing, or another one than was written.
+abbrev pub HasReason : Content → Refusal → Type 0
+HasReason c (refusal.Spent error) = IsUsedUp c error
+HasReason c (refusal.Broken error) = ⊥
+HasReason c (refusal.Repeated id) = ⊥
+HasReason c _ = Unit {0}
+
+-- Why nonces or numbers are used up, or a record was missing or another one than was written, over a
+-- store that tells nothing too: the last call on it was made since then, and its answer shows it.
+abbrev pub HasCause : {S : Type 0} → Ghosts S → S → S → Refusal → Type 0
+HasCause store old new (refusal.Spent step.NoncesSpent) = LastShows store old new ShowsNoNonce
+HasCause store old new (refusal.Spent (step.RevnoSpent key)) = LastShows store old new (ShowsSpentRevno key)
+HasCause store old new (refusal.Spent _) = ⊥
+HasCause store old new (refusal.Broken (step.Clash id at)) = LastShows store old new (ShowsClash id at)
+HasCause store old new (refusal.Broken _) = ⊥
+HasCause store old new (refusal.Repeated id) = LastShows store old new (ShowsRepeated id)
+HasCause store old new _ = Unit {0}

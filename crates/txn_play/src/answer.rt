@@ -1,0 +1,21 @@
+//! What a statement comes to, as a value: it is printed at the edge.
+
+use sqlite_items::Items;
+use txn_key::{Docs, TxnId};
+use txn_record::State;
+
+/// A transaction with the state of its record.
+#[derive(Clone, Copy, Debug, PartialEq, Eq)]
+pub struct RecordState {
+    pub id: TxnId,
+    pub state: State,
+}
+
+/// What a statement comes to: nothing to print, the transactions of a batch with their states, or the
+/// documents.
+#[derive(Drop)]
+pub enum Answer {
+    Nothing,
+    States(Items<RecordState>),
+    Documents(Docs),
+}
