@@ -14,7 +14,7 @@ use Rattle.store_laws.proofs.Later.{later_then}
 use Rattle.store_laws.proofs.Lost.{lost_then}
 use Rattle.store_laws.proofs.Orderly.{orderly}
 
-applying_goes : (s : State) → may_follow state.Applying s ≡ true → (s ≡ state.Applying) ⊎ (s ≡ state.Applied)
+pub applying_goes : (s : State) → may_follow state.Applying s ≡ true → (s ≡ state.Applying) ⊎ (s ≡ state.Applied)
 applying_goes state.Applying e = inl refl
 applying_goes state.Applied e = inr refl
 applying_goes _ e = cc

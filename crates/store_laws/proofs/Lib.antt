@@ -70,3 +70,5 @@ pub mod Marks
 pub mod OneEffect
 pub mod Applying
 pub mod Late
+pub mod Moments
+pub mod Known

@@ -10,6 +10,7 @@ use Rattle.txn_record.specs.Revnos.{is_present, is_within}
 use Rattle.store_trait.specs.Cells.{as_doc, as_stash}
 use Rattle.store_trait.specs.Contents.{Content}
 use Rattle.store_trait.specs.Owners.{owner_of, epoch}
+use Rattle.store_laws.specs.Entries.{entry_epoch}
 use Rattle.store_laws.specs.Soundness.{IsSound}
 use Rattle.store_laws.specs.View.{Body, Number, look, doc_at, stash_at, owner_held, owner_queue, by_side, doc_held, doc_queue, stash_held, stash_queue, held_number}
 use Rattle.store_trait.specs.declared.cell.Cell.{Cell}
@@ -77,6 +78,15 @@ entry_behind doc entry owns = by (nat_lt (epoch doc.revno) (epoch entry.revno)) 
     by : (b : Bool) → nat_lt (epoch doc.revno) (epoch entry.revno) ≡ b → cond b side.Stash side.Document ≡ side.Document → epoch entry.revno ≤ epoch doc.revno
     by true p q = absurd (cc q)
     by false p q = grind (arith, nat_tests)
+
+-- and a document that is no less than an entry owns the key
+pub behind_owns : (doc : DocCell) (stash : Option StashCell) → entry_epoch stash ≤ epoch doc.revno → owner_of (Some doc) stash ≡ side.Document
+behind_owns doc None le = refl
+behind_owns doc (Some entry) le = by (nat_lt (epoch doc.revno) (epoch entry.revno)) refl
+  where
+    by : (b : Bool) → nat_lt (epoch doc.revno) (epoch entry.revno) ≡ b → cond b side.Stash side.Document ≡ side.Document
+    by true p = absurd (grind (arith, nat_tests))
+    by false p = refl
 
 -- one beside a document that doesn't is further on
 pub entry_ahead : (doc : DocCell) (entry : StashCell) → owner_of (Some doc) (Some entry) ≡ side.Stash → epoch doc.revno < epoch entry.revno

@@ -24,15 +24,11 @@ use Rattle.store_trait.specs.declared.cell.Cell.TheVariants as cell
 use Rattle.store_trait.specs.declared.cell.DocCell.{DocCell}
 use Rattle.store_trait.specs.declared.edit.Edit.TheVariants as edit
 use Rattle.store_trait.specs.declared.name.Name.TheVariants as name
+use Rattle.store_laws.proofs.Chained.{applying_goes}
 use Rattle.store_laws.proofs.Done.{all_passed_later}
 
 pub all_passed_on : (c d : Content) → IsStep c d → (ops : List Op) (revnos : List ℤ) → AllPassed (look c) ops revnos → AllPassed (look d) ops revnos
 all_passed_on c d step = all_passed_later (look c) (look d) step.done.forward
-
-applying_goes : (s : State) → may_follow state.Applying s ≡ true → (s ≡ state.Applying) ⊎ (s ≡ state.Applied)
-applying_goes state.Applying e = inl refl
-applying_goes state.Applied e = inr refl
-applying_goes _ e = cc
 
 -- an applying record stays so with its numbers, or all that it had to do has passed
 pub applying_on : (c d : Content) → IsStep c d → (id : TxnId) (rec now : Record) (revnos : List ℤ) → record_at c id ≡ Some rec → rec.state ≡ state.Applying → rec.revnos ≡ Some revnos → record_at d id ≡ Some now

@@ -16,7 +16,9 @@ use Rattle.store_laws.specs.Steps.{IsStep}
 use Rattle.store_laws.specs.View.{look, record_at}
 use Rattle.store_laws.proofs.Chained.{step_then}
 use Rattle.store_laws.proofs.Misses.{quiet_itself}
+use Rattle.store_laws.proofs.Moments.{since_step}
 use Rattle.store_laws.proofs.TrailGrows.{step_of}
+use Rattle.store_laws.specs.Since.{Link, Since}
 use Rattle.store_laws.specs.Trail.{IsCall, Quiet, Applying, Aborting, IsTrail}
 
 after-append : (base : Docs) (xs ys : List Entry) → after base (xs ++ ys) ≡ after (after base xs) ys
@@ -56,22 +58,26 @@ module _ (trail : ℕ → Content) (mark n : ℕ) (base : Docs) (order : List En
       next : (m k : ℕ) → m + suc k ≡ m + k + 1
       next m k = omega arith
 
-  -- all calls between two places, as one step
-  steps_on : (j i : ℕ) → j + i ≤ n → IsStep (trail (mark + j)) (trail (mark + (j + i)))
-  steps_on j zero le = subst (λ (m : ℕ). IsStep (trail (mark + j)) (trail m)) (here mark j) (quiet_itself (trail (mark + j)) (sound_at j (omega arith))).step
+  -- the calls between two places
+  calls_on : (j i : ℕ) → j + i ≤ n → Since (trail (mark + j)) (trail (mark + (j + i)))
+  calls_on j zero le = subst (λ (m : ℕ). Since (trail (mark + j)) (trail m)) (here mark j) (Since.Nothing (trail (mark + j)))
     where
       here : (m j : ℕ) → m + j ≡ m + (j + 0)
       here m j = omega arith
-  steps_on j (suc i) le = subst (λ (m : ℕ). IsStep (trail (mark + j)) (trail m)) (next mark j i) (step_then (steps_on j i (omega arith)) (step_of (t.calls (j + i) (omega arith))))
+  calls_on j (suc i) le = subst (λ (m : ℕ). Since (trail (mark + j)) (trail m)) (next mark j i) (Since.Then (trail (mark + j)) (trail (mark + (j + i))) (trail (mark + (j + i) + 1)) (calls_on j i (omega arith)) (Link.Call (t.calls (j + i) (omega arith))))
     where
       next : (m j i : ℕ) → m + (j + i) + 1 ≡ m + (j + suc i)
       next m j i = omega arith
 
-  pub steps_between : (j k : ℕ) → j ≤ k → k ≤ n → IsStep (trail (mark + j)) (trail (mark + k))
-  steps_between j k le within = subst (λ (m : ℕ). IsStep (trail (mark + j)) (trail (mark + m))) (sum j k le) (steps_on j (k - j) (omega arith))
+  pub calls_between : (j k : ℕ) → j ≤ k → k ≤ n → Since (trail (mark + j)) (trail (mark + k))
+  calls_between j k le within = subst (λ (m : ℕ). Since (trail (mark + j)) (trail (mark + m))) (sum j k le) (calls_on j (k - j) (omega arith))
     where
       sum : (j k : ℕ) → j ≤ k → j + (k - j) ≡ k
       sum j k le = omega arith
+
+  -- as one step
+  pub steps_between : (j k : ℕ) → j ≤ k → k ≤ n → IsStep (trail (mark + j)) (trail (mark + k))
+  steps_between j k le within = since_step (trail (mark + j)) (trail (mark + k)) (sound_at j (omega arith)) (calls_between j k le within)
 
   same_later : (j k : ℕ) (id : TxnId) (old new : Record) → j ≤ k → k ≤ n → record_at (trail (mark + j)) id ≡ Some old → record_at (trail (mark + k)) id ≡ Some new → SameTransaction old new
   unfolding look

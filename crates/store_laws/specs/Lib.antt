@@ -18,3 +18,5 @@ pub mod Steps
 pub mod Later
 pub mod Done
 pub mod Entries
+pub mod Since
+pub mod Known

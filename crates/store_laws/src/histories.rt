@@ -11,7 +11,7 @@ ghost use Rattle.store_laws.specs.Decisions.{decided_by};
 ghost use Rattle.store_laws.specs.History.{IsFaithful};
 ghost use Rattle.store_laws.specs.Meaning.{meaning};
 ghost use Rattle.store_laws.specs.Soundness.{IsSound};
-ghost use Rattle.store_laws.specs.Steps.{IsStep};
+ghost use Rattle.store_laws.specs.Since.{Since};
 ghost use Rattle.store_laws.specs.View.{look, record_at, was_decided};
 ghost use Rattle.store_laws.specs.Trail.{IsCall, IsTrail, IsKept, IsRecorded};
 
@@ -28,7 +28,8 @@ pub fn growing_a_trail()
 {}
 
 /// A trail is a faithful history: every place is sound, and means the base after the decisions so far,
-/// one whole transaction after another, in an order that is legal.
+/// one whole transaction after another, in an order that is legal. And its calls lead from each place
+/// to each later one.
 pub fn trusting_a_trail()
     ensures faithful { (trail : ℕ → Content) (mark n : ℕ) (base : Docs) (order : List Entry) →
         IsTrail trail mark n base order → IsFaithful trail mark n base order }
@@ -36,8 +37,8 @@ pub fn trusting_a_trail()
         IsTrail trail mark n base order → legal base order ≡ true }
     ensures means { (trail : ℕ → Content) (mark n : ℕ) (base : Docs) (order : List Entry) →
         IsTrail trail mark n base order → meaning (trail (mark + n)) ≡ after base order }
-    ensures steps { (trail : ℕ → Content) (mark n : ℕ) (base : Docs) (order : List Entry) (j k : ℕ) →
-        IsTrail trail mark n base order → j ≤ k → k ≤ n → IsStep (trail (mark + j)) (trail (mark + k)) }
+    ensures calls { (trail : ℕ → Content) (mark n : ℕ) (base : Docs) (order : List Entry) (j k : ℕ) →
+        IsTrail trail mark n base order → j ≤ k → k ≤ n → Since (trail (mark + j)) (trail (mark + k)) }
 {}
 
 /// The order of a trail tells of just the records that came to be decided in it: each entry of one that

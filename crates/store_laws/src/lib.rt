@@ -10,8 +10,10 @@ mod forward;
 mod gathering;
 mod histories;
 mod holding;
+mod knowing;
 mod plain;
 mod preparing;
+mod reading;
 mod settling;
 mod submitting;
 mod queueing;
@@ -27,8 +29,10 @@ pub use forward::{readiness_lasts, ready_records_share_no_key, steps_follow};
 pub use gathering::{findings_last, gathering_the_ready, gatherings_last, scanning_own_keys};
 pub use histories::{growing_a_trail, reading_an_order, trusting_a_trail};
 pub use holding::owning_a_key;
+pub use knowing::{marked_cells_last, passing_lasts, queueing_lasts, records_last};
 pub use plain::staying_plain;
 pub use preparing::preparing_a_record;
+pub use reading::reading_a_key;
 pub use settling::{
     closing_an_aborted_record, closing_an_applied_record, passing_an_operation, staying_done,
     updating_a_document, updating_too_late,

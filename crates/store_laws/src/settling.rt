@@ -56,12 +56,9 @@ pub fn passing_an_operation()
         IsSound c → AppliesAt c id rec op revno → unsigned_abs revno < epoch_at (look c) op.key → HasPassed (look c) op revno }
 {}
 
-/// What has passed stays so at every step, and an applying record stays so, with its numbers, until
-/// all its operations have passed.
+/// An applying record stays so, with its numbers, until all its operations have passed.
 pub fn staying_done()
-    ensures passed { (c d : Content) (ops : List Op) (revnos : List ℤ) →
-        IsStep c d → AllPassed (look c) ops revnos → AllPassed (look d) ops revnos }
-    ensures applying { (c d : Content) (id : TxnId) (rec now : Record) (revnos : List ℤ) →
+    ensures { (c d : Content) (id : TxnId) (rec now : Record) (revnos : List ℤ) →
         IsStep c d → record_at c id ≡ Some rec → rec.state ≡ state.Applying → rec.revnos ≡ Some revnos →
         record_at d id ≡ Some now → (now.state ≡ state.Applying) ⊎ AllPassed (look d) rec.ops revnos }
 {}
