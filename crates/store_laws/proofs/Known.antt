@@ -1,5 +1,5 @@
 -- What a runner knows lasts at every step.
-use Rattle.std.proofs.Common.{◌≡◌, ℕ, ℤ, ◌≤◌, ◌<◌, lt_of_lt_of_le, true, Option, Some, None, List, ◌⊎◌, inl, inr, ⊎_elim, sym, ap, ◌∙◌, refl, subst}
+use Rattle.std.proofs.Common.{◌≡◌, ℕ, ℤ, ◌≤◌, ◌<◌, lt_of_lt_of_le, true, Option, Some, None, List, ◌⊎◌, inl, inr, ⊎_elim, sym, ap, ap₂, ◌∙◌, refl, subst}
 use Rattle.std.proofs.lemmas.Option.{same_Some}
 use Rattle.txn_key.specs.declared.id.TxnId.{TxnId}
 use Rattle.txn_key.specs.declared.id.Token.{Token}
@@ -10,6 +10,13 @@ use Rattle.txn_record.specs.declared.record.Record.{Record}
 use Rattle.txn_record.specs.declared.state.State.{State}
 use Rattle.txn_record.specs.declared.state.State.TheVariants as state
 use Rattle.store_trait.specs.Contents.{Content}
+use Rattle.store_trait.specs.Edits.{with_token}
+use Rattle.store_trait.specs.Owners.{owner_of, epoch}
+use Rattle.store_trait.specs.declared.side.Side.{Side}
+use Rattle.store_trait.specs.declared.side.Side.TheVariants as side
+use Rattle.store_laws.specs.Hits.{HasAdded}
+use Rattle.store_laws.proofs.Owning.{owned_queue, owned_by_one, entry_ahead}
+use Rattle.store_laws.proofs.Queues.{in_put}
 use Rattle.store_trait.specs.declared.cell.DocCell.{DocCell}
 use Rattle.store_trait.specs.declared.cell.StashCell.{StashCell}
 use Rattle.store_laws.specs.Done.{AllPassed}
@@ -62,6 +69,26 @@ listed_as_shown c key id doc stash nonce found shows valid all = record {
       let same : stands.nonce ≡ nonce = same_Some stands.nonce nonce (sym stands.valid ∙ valid) in
       all x (subst (Before x (token id nonce)) (shown_queue c key doc stash shows) (subst (λ (n : ℕ). Before x (token id n) ((look c).queue_at key)) same stands.before));
 }
+
+-- a token that was added to a document waits, unless a stash entry is past the document
+pub added_waits_or_behind : (c d : Content) (key : Key) (z : Token) (added : HasAdded c d key z) → In z ((look d).queue_at key) ⊎ (epoch added.doc.revno < stash_epoch d key)
+unfolding look
+added_waits_or_behind c d key z added = by (stash_at d key) refl
+  where
+    new : DocCell
+    new = record added.doc { queue = with_token z added.doc.queue }
+
+    waits : (stash : Option StashCell) → stash_at d key ≡ stash → owner_of (Some new) stash ≡ side.Document → In z (owner_queue (doc_at d key) (stash_at d key))
+    waits stash e owns = subst (In z) (sym (ap₂ owner_queue added.now e ∙ owned_queue new stash owns)) (in_put z added.doc.queue)
+
+    by_side_of : (entry : StashCell) → stash_at d key ≡ Some entry → (o : Side) → owner_of (Some new) (Some entry) ≡ o → In z (owner_queue (doc_at d key) (stash_at d key)) ⊎ (epoch added.doc.revno < stash_epoch d key)
+    by_side_of entry e side.Neither q = absurd (owned_by_one new entry q)
+    by_side_of entry e side.Document q = inl (waits (Some entry) e q)
+    by_side_of entry e side.Stash q = inr (subst (λ (n : ℕ). epoch added.doc.revno < n) (ap entry_epoch (sym e)) (entry_ahead new entry q))
+
+    by : (stash : Option StashCell) → stash_at d key ≡ stash → In z (owner_queue (doc_at d key) (stash_at d key)) ⊎ (epoch added.doc.revno < stash_epoch d key)
+    by None e = inl (waits None e refl)
+    by (Some entry) e = by_side_of entry e (owner_of (Some new) (Some entry)) refl
 
 -- Marked cells.
 

@@ -10,12 +10,14 @@ use Rattle.store_laws.specs.View.{View, held_number, epoch_at}
 
 -- a key's owner stands at a number, or past it
 abbrev pub HasCome : View → Key → ℤ → Type 0
-HasCome view key number = (held_number (view.held_at key) ≡ number) ⊎ (unsigned_abs number < epoch_at view key)
+HasCome view key number =
+    (held_number (view.held_at key) ≡ number) ⊎ (unsigned_abs number < epoch_at view key)
 
--- an operation has nothing left to do at its number: it does nothing there, or its key has come to the
--- number that it leads to
+-- an operation has nothing left to do at its number: it does nothing there, or its key has come to
+-- the number that it leads to
 abbrev pub HasPassed : View → Op → ℤ → Type 0
-HasPassed view op revno = (has_effect op.change revno ≡ false) ⊎ HasCome view op.key (number_after op.change revno)
+HasPassed view op revno =
+    (has_effect op.change revno ≡ false) ⊎ HasCome view op.key (number_after op.change revno)
 
 abbrev pub AllPassed : View → List Op → List ℤ → Type 0
 AllPassed view (op ∷ ops) (revno ∷ revnos) = HasPassed view op revno × AllPassed view ops revnos
@@ -26,5 +28,6 @@ AllPassed view _ [] = Unit {0}
 -- operations have passed.
 pub record StaysDone (old new : View) : Type 0 where
   pub forward : (key : Key) → HasCome new key (held_number (old.held_at key))
-  pub closes : (id : TxnId) (rec now : Record) (revnos : List ℤ) → old.record_at id ≡ Some rec → rec.state ≡ state.Applying → rec.revnos ≡ Some revnos
+  pub closes : (id : TxnId) (rec now : Record) (revnos : List ℤ) → old.record_at id ≡ Some rec
+      → rec.state ≡ state.Applying → rec.revnos ≡ Some revnos
       → new.record_at id ≡ Some now → now.state ≡ state.Applied → AllPassed new rec.ops revnos

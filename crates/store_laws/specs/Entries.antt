@@ -25,13 +25,16 @@ DocStays c key doc = (doc_at c key ≡ Some doc) ⊎ (epoch doc.revno < stash_ep
 abbrev pub EntryStays : Content → Key → StashCell → Type 0
 EntryStays c key entry = (stash_at c key ≡ Some entry) ⊎ (epoch entry.revno < stash_epoch c key)
 
--- Stash entries stay, and their epochs don't fall. No document comes to a key with neither cell. And a
--- marked cell stays as it is, until a stash entry is past it.
+-- Stash entries stay, and their epochs don't fall. No document comes to a key with neither cell.
+-- And a marked cell stays as it is, until a stash entry is past it.
 pub record CellsStay (old new : Content) : Type 0 where
   pub epochs : (key : Key) → stash_epoch old key ≤ stash_epoch new key
-  pub docs : (key : Key) → doc_at old key ≡ None → stash_at old key ≡ None → stash_at new key ≡ None → doc_at new key ≡ None
-  pub marked_doc : (key : Key) (doc : DocCell) (mark : Token) → doc_at old key ≡ Some doc → doc.remove ≡ Some mark → DocStays new key doc
-  pub marked_entry : (key : Key) (entry : StashCell) (mark : Token) → stash_at old key ≡ Some entry → entry.insert ≡ Some mark → EntryStays new key entry
+  pub docs : (key : Key) → doc_at old key ≡ None → stash_at old key ≡ None
+      → stash_at new key ≡ None → doc_at new key ≡ None
+  pub marked_doc : (key : Key) (doc : DocCell) (mark : Token) → doc_at old key ≡ Some doc
+      → doc.remove ≡ Some mark → DocStays new key doc
+  pub marked_entry : (key : Key) (entry : StashCell) (mark : Token) → stash_at old key ≡ Some entry
+      → entry.insert ≡ Some mark → EntryStays new key entry
 
 -- an absent entry counts as unmarked
 abbrev pub IsUnmarked : Option StashCell → Type 0

@@ -24,7 +24,8 @@ Closed g id = Contains g.closed id
 abbrev pub Edge : Gathering → TxnId → TxnId → Type 0
 Edge g u id = Contains g.edges (u, id)
 
--- each member was prepared, each closed one is settled, and an edge stands or its first record is clean
+-- each member was prepared, each closed one is settled, and an edge stands or its first record is
+-- clean
 pub record IsGathered (view : View) (g : Gathering) : Type 0 where
   pub decides : (id : TxnId) → Member g id → was_prepared view id ≡ true
   pub settles : (id : TxnId) → Closed g id → settled view id ≡ true

@@ -18,8 +18,11 @@ pub record SameTransaction (old new : Record) : Type 0 where
 -- The n places after a mark tell a history: the recorded order is that of the decisions, every
 -- place is sound and means the opening documents after the decisions so far, and a record keeps its
 -- operations and info.
-pub record IsFaithful (trail : ℕ → Content) (mark n : ℕ) (base : Docs) (order : List Entry) : Type 0 where
+pub record IsFaithful (trail : ℕ → Content) (mark n : ℕ) (base : Docs) (order : List Entry)
+    : Type 0 where
   pub order_is : order ≡ decisions trail mark n
   pub sound : (k : ℕ) → k ≤ n → IsSound (trail (mark + k))
   pub means : (k : ℕ) → k ≤ n → meaning (trail (mark + k)) ≡ after base (decisions trail mark k)
-  pub kept : (j k : ℕ) (id : TxnId) (old new : Record) → j ≤ n → k ≤ n → record_at (trail (mark + j)) id ≡ Some old → record_at (trail (mark + k)) id ≡ Some new → SameTransaction old new
+  pub kept : (j k : ℕ) (id : TxnId) (old new : Record) → j ≤ n → k ≤ n
+      → record_at (trail (mark + j)) id ≡ Some old → record_at (trail (mark + k)) id ≡ Some new
+      → SameTransaction old new

@@ -22,4 +22,5 @@ HasNoDocAlone c key = stash_at c key ≡ None → doc_at c key ≡ None
 -- a record that was applying: if it is applied by now, all its operations have passed
 abbrev pub PassedIfApplied : View → TxnId → List Op → List ℤ → Type 0
 PassedIfApplied view id ops revnos =
-    (now : Record) → view.record_at id ≡ Some now → now.state ≡ state.Applied → AllPassed view ops revnos
+    (now : Record) → view.record_at id ≡ Some now → now.state ≡ state.Applied
+    → AllPassed view ops revnos

@@ -40,16 +40,20 @@ pub record Precedes (view : View) (first then_ : TxnId) : Type 0 where
 abbrev pub Ancestor : View → TxnId → TxnId → Type 0
 Ancestor view a id = Leads (Precedes view) a id
 
--- every token that stands before a valid token of the record or of an ancestor is of a record that was prepared
+-- every token that stands before a valid token of the record or of an ancestor is of a record that
+-- was prepared
 abbrev pub Sealed : View → TxnId → Type 0
-Sealed view id = (a : TxnId) (x : Token) → Ancestor view a id → Stands view x a → was_prepared view x.id ≡ true
+Sealed view id =
+    (a : TxnId) (x : Token) → Ancestor view a id → Stands view x a → was_prepared view x.id ≡ true
 
 -- Every other unsettled ancestor has the record as an ancestor and has a greater id, and the record
 -- is sealed.
 pub record IsReady (view : View) (id : TxnId) : Type 0 where
   pub sealed : Sealed view id
-  pub back : (a : TxnId) → Ancestor view a id → a ≢ id → settled view a ≡ false → Ancestor view id a
-  pub least : (a : TxnId) → Ancestor view a id → a ≢ id → settled view a ≡ false → id_cmp id a ≡ Less
+  pub back : (a : TxnId) → Ancestor view a id → a ≢ id → settled view a ≡ false
+      → Ancestor view id a
+  pub least : (a : TxnId) → Ancestor view a id → a ≢ id → settled view a ≡ false
+      → id_cmp id a ≡ Less
 
 -- a record and all its ancestors are settled
 abbrev pub IsClean : View → TxnId → Type 0

@@ -27,8 +27,8 @@ pub record IsOwnedAs (c : Content) (key : Key) (doc : Option DocCell) (stash : O
   pub by_stash : owner_of doc stash ≡ side.Stash → stash_at c key ≡ stash
 
 -- a moment on the way from one content to another at which a key was owned as two cells show
-pub record IsMoment (first last : Content) (key : Key) (doc : Option DocCell) (stash : Option StashCell)
-    : Type 0 where
+pub record IsMoment (first last : Content) (key : Key) (doc : Option DocCell)
+    (stash : Option StashCell) : Type 0 where
   pub at : Content
   pub sound : IsSound at
   pub before : Since first at

@@ -1,5 +1,5 @@
--- What holds of every content on the way, between any two calls on the store: ten rules, each at every
--- name, over cells of their names' kinds.
+-- What holds of every content on the way, between any two calls on the store: ten rules, each at
+-- every name, over cells of their names' kinds.
 use Rattle.std.specs.Prelude.{◌≡◌, ◌≢◌, ℕ, ◌<◌, Bool, true, false, ◌&&◌, not, IsTrue, IfSome, ℤ, Option, Some, None, is_some, unwrap_or, option_map, option_to_list, List, [], ◌++◌}
 use Rattle.std.specs.FinMap.{get}
 use Rattle.txn_key.specs.declared.id.TxnId.{TxnId}
@@ -45,7 +45,8 @@ abbrev pub is_numbered_record : Record → Bool
 is_numbered_record rec =
     agree (is_some rec.nonce) (not (same_state rec.state state.Preparing))
     && agree (is_some rec.revnos) (has_revnos rec.state)
-    && unwrap_or (option_map (λ revnos. follows rec.ops revnos && stays_within rec.ops revnos) rec.revnos) true
+    && unwrap_or
+    (option_map (λ revnos. follows rec.ops revnos && stays_within rec.ops revnos) rec.revnos) true
 
 abbrev pub is_numbered : Cell → Bool
 is_numbered (cell.Record rec) = is_numbered_record rec
@@ -68,8 +69,10 @@ pub record HasSoundTokens (view : View) (key : Key) (queue tokens : List Token) 
   pub once : (x : Token) → Before x x queue → ⊥
 
 abbrev pub HasTokens : View → Name → Cell → Type 0
-HasTokens view (name.Doc key) (cell.Doc doc) = HasSoundTokens view key doc.queue (tokens_of_doc doc)
-HasTokens view (name.Stash key) (cell.Stash stash) = HasSoundTokens view key stash.queue (tokens_of_stash stash)
+HasTokens view (name.Doc key) (cell.Doc doc) =
+    HasSoundTokens view key doc.queue (tokens_of_doc doc)
+HasTokens view (name.Stash key) (cell.Stash stash) =
+    HasSoundTokens view key stash.queue (tokens_of_stash stash)
 HasTokens view _ _ = Unit {0}
 
 abbrev pub AllBelow : ℕ → List Token → Type 0
@@ -86,19 +89,25 @@ NoncesBelow limit (cell.Nonce counter) = Unit {0}
 
 -- the token of a prepared or applying record stands in the owner queue of each of its keys
 abbrev pub IsInQueues : Content → TxnId → Type 0
-IsInQueues c id = (rec : Record) (nonce : ℕ) (key : Key) → record_at c id ≡ Some rec → IsTrue (is_queued_state rec.state) → rec.nonce ≡ Some nonce → IsOn key rec.ops → In (token id nonce) ((look c).queue_at key)
+IsInQueues c id =
+    (rec : Record) (nonce : ℕ) (key : Key) → record_at c id ≡ Some rec
+    → IsTrue (is_queued_state rec.state) → rec.nonce ≡ Some nonce → IsOn key rec.ops
+    → In (token id nonce) ((look c).queue_at key)
 
 -- What an applying record finds: each key's owner stands at a number of the record's chain on the
 -- key, its end included. With no cell that number is -1.
 pub record StandsOnChain (view : View) (rec : Record) : Type 0 where
-  pub on_chain : (key : Key) → IsOn key rec.ops → is_on_chain key (held_number (view.held_at key)) rec.ops (unwrap_or rec.revnos []) ≡ true
+  pub on_chain : (key : Key) → IsOn key rec.ops
+      → is_on_chain key (held_number (view.held_at key)) rec.ops (unwrap_or rec.revnos []) ≡ true
 
 -- what an applying record has still to do fits the bodies that it finds, as its operations run
 abbrev pub PendingFits : Content → Record → Type 0
 PendingFits c rec = changes_fit (pending_of (look c) rec) (bodies c) ≡ true
 
 abbrev pub IfApplying : Content → (Record → Type 0) → TxnId → Type 0
-IfApplying c P id = (rec : Record) → record_at c id ≡ Some rec → IsTrue (same_state state.Applying rec.state) → P rec
+IfApplying c P id =
+    (rec : Record) → record_at c id ≡ Some rec → IsTrue (same_state state.Applying rec.state)
+    → P rec
 
 -- Marks and stash entries.
 
@@ -112,7 +121,8 @@ is_insertion _ = false
 
 -- a mark is the valid token of an applying record that has on this key, at the owner's number, an
 -- operation of a kind
-pub record IsMarkOf (view : View) (key : Key) (mark : Token) (is_kind : Change → Bool) : Type 0 where
+pub record IsMarkOf (view : View) (key : Key) (mark : Token) (is_kind : Change → Bool)
+    : Type 0 where
   pub rec : Record
   pub there : view.record_at mark.id ≡ Some rec
   pub applies : rec.state ≡ state.Applying
@@ -126,8 +136,14 @@ pub record IsMarkOf (view : View) (key : Key) (mark : Token) (is_kind : Change �
 
 -- a document that owns its key is marked for a removal, a stash entry for an insertion
 abbrev pub IsMarkedSoundly : Content → Name → Type 0
-IsMarkedSoundly c (name.Doc key) = (doc : DocCell) (mark : Token) → doc_at c key ≡ Some doc → doc.remove ≡ Some mark → owner_of (doc_at c key) (stash_at c key) ≡ side.Document → IsMarkOf (look c) key mark is_removal
-IsMarkedSoundly c (name.Stash key) = (stash : StashCell) (mark : Token) → stash_at c key ≡ Some stash → stash.insert ≡ Some mark → owner_of (doc_at c key) (stash_at c key) ≡ side.Stash → IsMarkOf (look c) key mark is_insertion
+IsMarkedSoundly c (name.Doc key) =
+    (doc : DocCell) (mark : Token) → doc_at c key ≡ Some doc → doc.remove ≡ Some mark
+    → owner_of (doc_at c key) (stash_at c key) ≡ side.Document
+    → IsMarkOf (look c) key mark is_removal
+IsMarkedSoundly c (name.Stash key) =
+    (stash : StashCell) (mark : Token) → stash_at c key ≡ Some stash → stash.insert ≡ Some mark
+    → owner_of (doc_at c key) (stash_at c key) ≡ side.Stash
+    → IsMarkOf (look c) key mark is_insertion
 IsMarkedSoundly c _ = Unit {0}
 
 -- a stash entry's epoch is not the document's, and unmarked it owns its key
@@ -136,7 +152,8 @@ pub record IsSoundEntry (doc : Option DocCell) (stash : StashCell) : Type 0 wher
   pub owns : stash.insert ≡ None → owner_of doc (Some stash) ≡ side.Stash
 
 abbrev pub HasSoundEntry : Content → Name → Type 0
-HasSoundEntry c (name.Stash key) = (stash : StashCell) → stash_at c key ≡ Some stash → IsSoundEntry (doc_at c key) stash
+HasSoundEntry c (name.Stash key) =
+    (stash : StashCell) → stash_at c key ≡ Some stash → IsSoundEntry (doc_at c key) stash
 HasSoundEntry c _ = Unit {0}
 
 -- The rules by name.

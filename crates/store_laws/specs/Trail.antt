@@ -17,9 +17,10 @@ pub data IsCall (old new : Content) : Type 0 where
   Applying : (rec : Record) → Applies old new rec → IsCall old new
   Aborting : (rec : Record) → Aborts old new rec → IsCall old new
 
--- The n calls after a mark, over sound content that meant the base then, with the decisions that they
--- made in order.
-pub record IsTrail (trail : ℕ → Content) (mark n : ℕ) (base : Docs) (order : List Entry) : Type 0 where
+-- The n calls after a mark, over sound content that meant the base then, with the decisions that
+-- they made in order.
+pub record IsTrail (trail : ℕ → Content) (mark n : ℕ) (base : Docs) (order : List Entry)
+    : Type 0 where
   pub opens : IsSound (trail mark)
   pub base_is : meaning (trail mark) ≡ base
   pub calls : (k : ℕ) → k < n → IsCall (trail (mark + k)) (trail (mark + k + 1))

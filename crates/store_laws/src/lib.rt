@@ -13,10 +13,10 @@ mod holding;
 mod knowing;
 mod plain;
 mod preparing;
+mod queueing;
 mod reading;
 mod settling;
 mod submitting;
-mod queueing;
 
 pub use alone::{being_alone_lasts, being_alone_makes_ready};
 pub use deciding::{
@@ -32,10 +32,10 @@ pub use holding::owning_a_key;
 pub use knowing::{marked_cells_last, passing_lasts, queueing_lasts, records_last};
 pub use plain::staying_plain;
 pub use preparing::preparing_a_record;
+pub use queueing::{adding_a_token, drawing_a_nonce, nonces_are_fresh, nonces_are_given};
 pub use reading::reading_a_key;
 pub use settling::{
     closing_an_aborted_record, closing_an_applied_record, passing_an_operation, staying_done,
     updating_a_document, updating_too_late,
 };
 pub use submitting::{beginning_with_nothing, inserting_a_record, placing_a_document};
-pub use queueing::{adding_a_token, drawing_a_nonce, nonces_are_fresh, nonces_are_given};
