@@ -32,8 +32,10 @@ module _ {view : View} {id : TxnId} (alone : IsAlone view id) where
   pub alone_ready : was_prepared view id ≡ true → IsReady view id
   alone_ready d = record {
     sealed = λ a x walk stands. ⊎_elim (λ e. ap (was_prepared view) e ∙ d) (λ apart. decided_if_chosen view x.id (chosen_if_settled view x.id (alone.others stands.key x (first_in x _ _ stands.here.before) apart))) (same_id_or_not x.id id);
-    back = λ a walk apart unsettled. absurd (never a walk apart unsettled);
-    least = λ a walk apart unsettled. absurd (never a walk apart unsettled);
+    first = record {
+      back = λ a walk apart unsettled. absurd (never a walk apart unsettled);
+      least = λ a walk apart unsettled. absurd (never a walk apart unsettled);
+    };
   }
     where
       never : (a : TxnId) → Ancestor view a id → a ≢ id → settled view a ≡ false → ⊥

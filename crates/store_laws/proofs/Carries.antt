@@ -63,8 +63,10 @@ carry_spent back o x (inr clean) = inr (carry_clean back o x.id clean)
 pub carry_ready : {old new : View} → IsLater old new → (id : TxnId) → was_prepared old id ≡ true → settled new id ≡ false → IsReady old id → IsReady new id
 carry_ready {old = old} {new = new} later id d unsettled ready = record {
   sealed = carry_sealed later.back id d ready.sealed;
-  back = λ a walk other open_. walk_on id a (ready.back a (was a walk) other (before a open_)) later unsettled;
-  least = λ a walk other open_. ready.least a (was a walk) other (before a open_);
+  first = record {
+    back = λ a walk other open_. walk_on id a (ready.first.back a (was a walk) other (before a open_)) later unsettled;
+    least = λ a walk other open_. ready.first.least a (was a walk) other (before a open_);
+  };
 }
   where
     was : (a : TxnId) → Ancestor new a id → Ancestor old a id

@@ -48,8 +48,8 @@ circle : {view : View} (t u : TxnId) → is_queued view t ≡ true → is_queued
 circle {view = view} t u t_waits u_waits apart t_ready u_ready walk =
     let u_apart : u ≢ t = λ e. apart (sym e) in
     let t_open = unsettled_if_waiting view t t_waits in
-    let u_less = u_ready.least t walk apart t_open in
-    let t_less = t_ready.least u (u_ready.back t walk apart t_open) u_apart (unsettled_if_waiting view u u_waits) in
+    let u_less = u_ready.first.least t walk apart t_open in
+    let t_less = t_ready.first.least u (u_ready.first.back t walk apart t_open) u_apart (unsettled_if_waiting view u u_waits) in
     let turned = id_cmp_total.antisymm t u in
     cc (turned, t_less, u_less)
 

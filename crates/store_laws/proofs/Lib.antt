@@ -27,7 +27,6 @@ pub mod Effects
 pub mod Misses
 pub mod RecordEdits
 pub mod Numbers
-pub mod OneChain
 pub mod DocEdits
 pub mod Fitting
 pub mod DecidingMoves
@@ -72,3 +71,4 @@ pub mod Applying
 pub mod Late
 pub mod Moments
 pub mod Known
+pub mod Reaching

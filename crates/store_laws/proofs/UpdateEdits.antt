@@ -37,7 +37,7 @@ use Rattle.store_trait.specs.Owners.{owner_of}
 use Rattle.store_trait.specs.declared.edit.Edit.TheVariants as edit
 use Rattle.store_trait.specs.declared.name.Name.TheVariants as name
 use Rattle.store_laws.specs.Chains.{AppliesUpdate, IsAt}
-use Rattle.store_laws.specs.Done.{HasPassed}
+use Rattle.store_laws.specs.Done.{HasPassed, IsTurn}
 use Rattle.store_laws.proofs.ChainOrder.{same_on_chain}
 use Rattle.store_laws.proofs.Applying
 use Rattle.store_laws.proofs.Done.{passed_later}
@@ -46,7 +46,7 @@ use Rattle.store_laws.proofs.NumberAfter.{after_above, update_acts, update_leads
 use Rattle.store_laws.proofs.Fitting.{fits_now}
 use Rattle.store_laws.proofs.Idle.{pending_of-applying}
 use Rattle.store_laws.proofs.Inherits.{at_on, at_found}
-use Rattle.store_laws.proofs.OneChain.{at_only, on_chain-either}
+use Rattle.store_laws.proofs.Reaching.{reached_in_turn}
 use Rattle.store_laws.proofs.Runs.{same_key-itself, same_key-apart}
 use Rattle.store_laws.proofs.Taken.{Taken, taken}
 use Rattle.store_laws.proofs.Thinned.{thinned_away, thinned_fits}
@@ -126,21 +126,6 @@ module _ (c : Content) (s : IsSound c) (id : TxnId) (rec : Record) (op : Op) (re
           (λ less. inl (Applying.passed_if_past c s id rec op revno u.at less))
           (equal_or_less _ _ reached)
 
-  -- one operation alone stands at its number or has left it
-  module _ (one : rec.ops ≡ op ∷ []) where
-    either : (owner ≡ revno) ⊎ (owner ≡ number_after op.change revno)
-    unfolding owner
-    either =
-        let only = at_only op revno u.at.numbers (subst (λ (ops : List Op). follows ops u.at.numbers ≡ true) one (Applying.in_turn c s id rec op revno u.at)) (subst (λ (ops : List Op). IsAt op revno ops u.at.numbers) one u.at.stands) in
-        on_chain-either op revno owner (sym (λ i. is_on_chain op.key owner (one i) (only i)) ∙ Applying.owner_on_chain c s id rec op revno u.at)
-
-    pub reached_one : unsigned_abs revno ≤ epoch_at (look c) op.key
-    unfolding owner
-    reached_one = ⊎_elim
-        (λ q. subst (λ (n : ℤ). unsigned_abs revno ≤ unsigned_abs n) (sym q) (le_refl _))
-        (λ q. subst (λ (n : ℤ). unsigned_abs revno ≤ unsigned_abs n) (sym q) (after_above op.change revno))
-        either
-
   updates_there : (there : OwnsAt c op.key revno) (nonce : ℕ) → rec.nonce ≡ Some nonce → is_updatable there.doc revno (token id nonce) ≡ true
   unfolding look
   updates_there there nonce drawn = λ i. (Decides-int_eq there.doc.revno revno).1 there.at i && below_last revno (Applying.within_ends c s id rec op revno u.at).0 i && in_is_there (token id nonce) there.doc.queue inside i
@@ -192,6 +177,14 @@ module _ (c : Content) (s : IsSound c) (id : TxnId) (rec : Record) (op : Op) (re
               ap (λ (o : Option Cell). put_under c (name.Doc op.key) (hit_update revno (token id nonce) update (name.Doc op.key) o)) (doc_under c op.key there.doc there.there)
               ∙ (λ i. put_under c (name.Doc op.key) (cond (updates_there there nonce drawn i) (option_map (λ (body : Value). Some (with_body there.doc body)) (fit i)) None))
 
-  -- one operation alone needs no more
-  pub update_passes_alone : rec.ops ≡ op ∷ [] → (nonce : ℕ) → rec.nonce ≡ Some nonce → HasPassed (look (edited c (name.Doc op.key) (edit.Update revno (token id nonce) update))) op revno
-  update_passes_alone one nonce drawn = update_passes (reached_one one) nonce drawn
+-- one operation alone needs no more
+pub update_passes_alone : (c : Content) (s : IsSound c) (id : TxnId) (rec : Record) (op : Op) (revno : ℤ) (update : Value) (u : AppliesUpdate c id rec op revno update) → rec.ops ≡ op ∷ [] → (nonce : ℕ) → rec.nonce ≡ Some nonce → HasPassed (look (edited c (name.Doc op.key) (edit.Update revno (token id nonce) update))) op revno
+update_passes_alone c s id rec op revno update u one = update_passes c s id rec op revno update u (reached_in_turn c id rec op revno u.at s (its_turn rec.ops u.at.numbers one u.at.stands))
+  where
+    its_turn : (ops : List Op) (revnos : List ℤ) → ops ≡ op ∷ [] → IsAt op revno ops revnos → IsTurn (look c) op revno ops revnos
+    its_turn ops revnos e = subst (λ (ops : List Op). IsAt op revno ops revnos → IsTurn (look c) op revno ops revnos) (sym e) (at_one revnos)
+      where
+        at_one : (revnos : List ℤ) → IsAt op revno (op ∷ []) revnos → IsTurn (look c) op revno (op ∷ []) revnos
+        at_one [] at = absurd at
+        at_one (r ∷ revnos) (inl here) = inl here
+        at_one (r ∷ revnos) (inr later) = absurd later

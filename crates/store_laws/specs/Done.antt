@@ -24,6 +24,13 @@ AllPassed view (op ∷ ops) (revno ∷ revnos) = HasPassed view op revno × AllP
 AllPassed view [] _ = Unit {0}
 AllPassed view _ [] = Unit {0}
 
+-- an operation stands in a transaction at a number, and all before it have passed
+abbrev pub IsTurn : View → Op → ℤ → List Op → List ℤ → Type 0
+IsTurn view op revno (o ∷ ops) (r ∷ revnos) =
+    ((o ≡ op) × (r ≡ revno)) ⊎ (HasPassed view o r × IsTurn view op revno ops revnos)
+IsTurn view op revno [] _ = ⊥
+IsTurn view op revno _ [] = ⊥
+
 -- The number of a key's owner stays, or its epoch rises. And a record is applied only once all its
 -- operations have passed.
 pub record StaysDone (old new : View) : Type 0 where

@@ -4,7 +4,7 @@ use Rattle.txn_key.specs.Ids.{id_cmp}
 use Rattle.txn_key.specs.declared.id.TxnId.{TxnId}
 use Rattle.txn_key.specs.declared.id.Token.{Token}
 use Rattle.txn_key.specs.declared.key.Key.{Key}
-use Rattle.txn_record.specs.Walks.{Leads}
+use Rattle.txn_record.specs.Walks.{Leads, GoesFirst, AllBefore}
 use Rattle.store_laws.specs.View.{View, was_prepared, settled, valid_nonce}
 
 abbrev pub token : TxnId → ℕ → Token
@@ -46,18 +46,14 @@ abbrev pub Sealed : View → TxnId → Type 0
 Sealed view id =
     (a : TxnId) (x : Token) → Ancestor view a id → Stands view x a → was_prepared view x.id ≡ true
 
--- Every other unsettled ancestor has the record as an ancestor and has a greater id, and the record
--- is sealed.
+-- The record goes first among the unsettled ones by id, and it is sealed.
 pub record IsReady (view : View) (id : TxnId) : Type 0 where
   pub sealed : Sealed view id
-  pub back : (a : TxnId) → Ancestor view a id → a ≢ id → settled view a ≡ false
-      → Ancestor view id a
-  pub least : (a : TxnId) → Ancestor view a id → a ≢ id → settled view a ≡ false
-      → id_cmp id a ≡ Less
+  pub first : GoesFirst (Precedes view) (λ a. settled view a ≡ false) (λ a b. id_cmp a b ≡ Less) id
 
 -- a record and all its ancestors are settled
 abbrev pub IsClean : View → TxnId → Type 0
-IsClean view id = (a : TxnId) → Ancestor view a id → settled view a ≡ true
+IsClean view id = AllBefore (Precedes view) (λ a. settled view a ≡ true) id
 
 -- a token of a prepared record, or a later one, with another nonce than the record's
 pub record IsStale (view : View) (x : Token) : Type 0 where

@@ -10,7 +10,7 @@ ghost use Rattle.txn_record.specs.declared.op.Op.{Op};
 ghost use Rattle.txn_record.specs.declared.record.Record.{Record};
 ghost use Rattle.txn_record.specs.declared.state.State.TheVariants as state;
 ghost use Rattle.store_trait.specs.Contents.{Content};
-ghost use Rattle.store_laws.specs.Done.{HasPassed, AllPassed};
+ghost use Rattle.store_laws.specs.Done.{HasPassed, AllPassed, IsTurn};
 ghost use Rattle.store_trait.specs.Edits.{edited};
 ghost use Rattle.store_laws.specs.Readiness.{token};
 ghost use Rattle.store_laws.specs.Soundness.{IsSound};
@@ -21,17 +21,16 @@ ghost use Rattle.store_trait.specs.declared.name.Name.TheVariants as name;
 ghost use Rattle.store_laws.specs.Chains.{AppliesAt, AppliesUpdate};
 
 /// An applying record's update at its number decides nothing and leaves the meaning. After it, hit or
-/// miss, the operation has passed, once its key had come to its number.
+/// miss, the operation has passed, once its key had come to its number: so it is where its turn is.
 pub fn updating_a_document()
     ensures quiet { (c : Content) (id : TxnId) (rec : Record) (op : Op) (revno : ℤ) (update : Value) (waiting : Token) →
         IsSound c → AppliesUpdate c id rec op revno update →
         IsQuiet c (edited c (name.Doc op.key) (edit.Update revno waiting update)) }
     ensures passes { (c : Content) (id : TxnId) (rec : Record) (op : Op) (revno : ℤ) (update : Value) (nonce : ℕ) →
-        IsSound c → AppliesUpdate c id rec op revno update → rec.nonce ≡ Some nonce → rec.ops ≡ op ∷ [] →
-        HasPassed (look (edited c (name.Doc op.key) (edit.Update revno (token id nonce) update))) op revno }
-    ensures passes_in_turn { (c : Content) (id : TxnId) (rec : Record) (op : Op) (revno : ℤ) (update : Value) (nonce : ℕ) →
         IsSound c → AppliesUpdate c id rec op revno update → rec.nonce ≡ Some nonce → unsigned_abs revno ≤ epoch_at (look c) op.key →
         HasPassed (look (edited c (name.Doc op.key) (edit.Update revno (token id nonce) update))) op revno }
+    ensures reached { (c : Content) (id : TxnId) (rec : Record) (op : Op) (revno : ℤ) (a : AppliesAt c id rec op revno) →
+        IsSound c → IsTurn (look c) op revno rec.ops a.numbers → unsigned_abs revno ≤ epoch_at (look c) op.key }
 {}
 
 /// The update of an operation that has passed decides nothing and leaves the meaning, whoever makes it
