@@ -17,7 +17,7 @@ use Rattle.store_trait.specs.declared.changes.Changed.{Changed}
 use Rattle.store_trait.specs.Changes.{as_hit}
 use Rattle.store_trait.proofs.NameOrder.{name_cmp_total, name_cmp-IsAntisymmetric}
 use Rattle.store_memory.specs.declared.log.Logged.{Logged}
-use Rattle.store_memory.specs.Told.{Told, IsCounted, content_of, fault_limit, logged, noted}
+use Rattle.store_memory.specs.Told.{Told, IsWithinCounts, content_of, fault_limit, logged, noted}
 use Rattle.store_memory.specs.CallsMade.{IsKept}
 use Rattle.store_memory.proofs.Trail.{content_stays, later_made, noted_content, noted_made, logged_at}
 
@@ -62,7 +62,7 @@ kept_later cells log fails calls faults later failures kept le few = record {
 }
 
 -- a call that is counted leaves the content
-pub counted_content : (log : List Logged) (fails : List ℕ) (calls faults : ℕ) (old : Told) → told_of log fails calls faults ≡ old → IsCounted (told_of log fails calls faults) → content_of (told_of log fails (calls + 1) faults) ≡ content_of old
+pub counted_content : (log : List Logged) (fails : List ℕ) (calls faults : ℕ) (old : Told) → told_of log fails calls faults ≡ old → IsWithinCounts (told_of log fails calls faults) → content_of (told_of log fails (calls + 1) faults) ≡ content_of old
 counted_content log fails calls faults old is counted = content_stays (told_of log fails calls faults) (calls + 1) counted.made (omega arith) ∙ ap content_of is
 
 named_passes : (test : Entry → Bool) (cells : List Entry) (o : Option Named) → o ≡ option_map named (find test cells) → IfSome o (λ it. test (it.name, it.cell) ≡ true)

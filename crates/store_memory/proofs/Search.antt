@@ -8,7 +8,7 @@ use Rattle.std.specs.FinMap.Entries.{find as value_of}
 use Rattle.std.specs.declared.cmp.Ordering.{Ordering}
 use Rattle.std.specs.declared.cmp.Ordering.TheVariants.{Less, Equal, Greater}
 use Rattle.std.proofs.lemmas.List.Sorted.{searchable_from_sorted}
-use Rattle.store_memory.specs.Places.{GoesAt, StandsAt}
+use Rattle.store_memory.specs.Positions.{GoesAt, StandsAt}
 
 below : (r : Ordering) → T (is_lt r) → r ≡ Less
 below Less h = refl
@@ -72,7 +72,7 @@ held b e = subst T (sym e) tt
 pub found_in_order : {K X : Type 0} {R : K → K → Ordering} (o : IsTotalOrder R) (k : K) (es : List (K × X)) (r : Result ℕ ℕ) → is_sorted R es ≡ true → IsSearchInRange r (length es) → IsBinarySearchResult (λ e. R e.0 k) es r → IfOk r (λ i. StandsAt R k i es) × IfErr r (λ i. GoesAt R k i es)
 found_in_order o k es r h = finds o k es r (held _ h)
 
--- what is read and written at the place of a key
+-- what is read and written at the position of a key
 module _ {K X : Type 0} (R : K → K → Ordering) (k : K) where
   pub value_goes : (es : List (K × X)) (i : ℕ) → GoesAt R k i es → value_of R k es ≡ None
   value_goes [] zero h = refl

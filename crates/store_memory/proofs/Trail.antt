@@ -6,7 +6,7 @@ use Rattle.store_trait.specs.Edits.{Hit, edited, put_under, hit as hit_of}
 use Rattle.store_trait.specs.declared.edit.Edit.{Edit}
 use Rattle.store_trait.specs.declared.name.Name.{Name}
 use Rattle.store_memory.specs.declared.log.Logged.{Logged}
-use Rattle.store_memory.specs.Told.{Told, with_change, replayed, place_of, content_of, IsMadeBy, logged, called, noted}
+use Rattle.store_memory.specs.Told.{Told, with_change, replayed, trail_of, content_of, IsMadeBy, logged, called, noted}
 
 pub made_test : (at calls : ℕ) → at ≤ calls → nat_le at calls ≡ true
 made_test at calls h = grind (arith, nat_tests)
@@ -65,7 +65,7 @@ pub later_made : (told : Told) (calls : ℕ) → IsMadeBy told.calls told.log �
 later_made told calls h le = made_later told.log told.calls calls h le
 
 -- a later call without changes leaves the content
-pub content_stays : (told : Told) (calls : ℕ) → IsMadeBy told.calls told.log → told.calls ≤ calls → place_of told calls ≡ content_of told
+pub content_stays : (told : Told) (calls : ℕ) → IsMadeBy told.calls told.log → told.calls ≤ calls → trail_of told calls ≡ content_of told
 content_stays told calls h le = settled empty told.log told.calls calls h le
 
 -- the content after the next call: what its changes make of the content before
@@ -90,6 +90,6 @@ noted_content told name edit (Some after) is =
     let change : Logged = record { at = told.calls; name = name; edit = edit } in
     replayed-append empty told.log (change ∷ []) told.calls ∙ with_made told.calls change (content_of told) (omega arith) ∙ ap (put_under (content_of told) name) is
 
--- the changes of the next call are in no earlier place of the trail
-pub places_stay : (told : Told) (changes : List Logged) → AreAt (told.calls + 1) changes → (n : ℕ) → n ≤ told.calls → place_of (called told changes) n ≡ place_of told n
-places_stay told changes now n le = replayed-append empty told.log changes n ∙ replayed-later (place_of told n) changes (told.calls + 1) n now (omega arith)
+-- the changes of the next call are in no earlier content of the trail
+pub trail_stays : (told : Told) (changes : List Logged) → AreAt (told.calls + 1) changes → (n : ℕ) → n ≤ told.calls → trail_of (called told changes) n ≡ trail_of told n
+trail_stays told changes now n le = replayed-append empty told.log changes n ∙ replayed-later (trail_of told n) changes (told.calls + 1) n now (omega arith)

@@ -1,3 +1,3 @@
-pub mod Places
+pub mod Positions
 pub mod Told
 pub mod CallsMade

@@ -9,8 +9,8 @@ use Rattle.store_trait.specs.declared.edit.Edit.{Edit}
 use Rattle.store_trait.specs.declared.name.Name.{Name}
 use Rattle.store_memory.specs.declared.log.Logged.{Logged}
 
--- what a store in memory tells: the edits that changed cells in the order of their calls, the numbers of the
--- calls that fail, how many calls were made, and how many faults there were
+-- what a store in memory tells: the edits that changed cells in the order of their calls, the
+-- numbers of the calls that fail, how many calls were made, and how many faults there were
 pub record Told : Type 0 where
   pub log : List Logged
   pub fails : List ℕ
@@ -19,7 +19,17 @@ pub record Told : Type 0 where
 
 -- what is told is stored as the tuple of its fields
 abbrev pub told_code : Coded Logged → Coded Told
-told_code change = code_by (List Logged × (List ℕ × (ℕ × ℕ))) (coded× (coded_list change) (coded× (coded_list coded_ℕ) (coded× coded_ℕ coded_ℕ))) (λ told. (told.log, (told.fails, (told.calls, told.faults)))) (λ parts. record { log = parts.0; fails = parts.1.0; calls = parts.1.1.0; faults = parts.1.1.1 }) (λ _. refl)
+told_code change =
+    code_by (List Logged × (List ℕ × (ℕ × ℕ)))
+    (coded× (coded_list change) (coded× (coded_list coded_ℕ) (coded× coded_ℕ coded_ℕ)))
+    (λ told. (told.log, (told.fails, (told.calls, told.faults))))
+    (λ parts. record {
+      log = parts.0;
+      fails = parts.1.0;
+      calls = parts.1.1.0;
+      faults = parts.1.1.1;
+    })
+    (λ _. refl)
 
 -- what a new store tells
 abbrev pub opened : List ℕ → Told
@@ -27,7 +37,8 @@ opened fails = record { log = []; fails = fails; calls = 0; faults = 0 }
 
 -- the content with a change, if that was made by then
 abbrev pub with_change : ℕ → Logged → Content → Content
-with_change calls change content = if nat_le change.at calls then edited content change.name change.edit else content
+with_change calls change content =
+    if nat_le change.at calls then edited content change.name change.edit else content
 
 -- the content after so many calls
 abbrev pub replayed : Content → List Logged → ℕ → Content
@@ -35,11 +46,11 @@ replayed content [] calls = content
 replayed content (change ∷ log) calls = replayed (with_change calls change content) log calls
 
 -- the trail, which begins with an empty content
-abbrev pub place_of : Told → ℕ → Content
-place_of told calls = replayed empty told.log calls
+abbrev pub trail_of : Told → ℕ → Content
+trail_of told calls = replayed empty told.log calls
 
 abbrev pub content_of : Told → Content
-content_of told = place_of told told.calls
+content_of told = trail_of told told.calls
 
 abbrev pub calls_of : Told → ℕ
 calls_of told = told.calls
@@ -57,26 +68,34 @@ abbrev pub fault_limit : ℕ
 fault_limit = 18446744073709551615
 
 -- what always holds of what is told: each change was made by now, and the faults can be counted
-pub record IsCounted (told : Told) : Type 0 where
+pub record IsWithinCounts (told : Told) : Type 0 where
   pub made : IsMadeBy told.calls told.log
   pub faults : told.faults ≤ fault_limit
 
 -- whether the next call fails: it is numbered so, or no call is counted any more
 abbrev pub fails_next : Told → Bool
-fails_next told = nat_le call_limit told.calls || list_any (λ call. call == told.calls + 1) told.fails
+fails_next told =
+    nat_le call_limit told.calls || list_any (λ call. call == told.calls + 1) told.fails
 
 -- what is told once the next call has failed
 abbrev pub failed : Told → Told
-failed told = record told { calls = counted_call told.calls; faults = min (told.faults + 1) fault_limit }
+failed told = record told {
+  calls = counted_call told.calls;
+  faults = min (told.faults + 1) fault_limit;
+}
 
 -- what the log gets of an edit of a cell: nothing where it missed
 abbrev pub logged : ℕ → Name → Edit → Hit → List Logged
 logged call name edit None = []
 logged call name edit (Some after) = record { at = call; name = name; edit = edit } ∷ []
 
+-- what an edit does to the present content
+abbrev pub hit_of : Told → Name → Edit → Hit
+hit_of told name edit = hit edit name (get (content_of told) name)
+
 -- what the log gets of the next call, where that edits a cell
 abbrev pub changes_of : Told → Name → Edit → List Logged
-changes_of told name edit = logged (told.calls + 1) name edit (hit edit name (get (content_of told) name))
+changes_of told name edit = logged (told.calls + 1) name edit (hit_of told name edit)
 
 -- what is told once the log got these changes
 abbrev pub noted : Told → List Logged → Told

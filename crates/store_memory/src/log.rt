@@ -1,7 +1,7 @@
 use store_trait::{Edit, Name};
 
-/// An edit that changed a cell, and the number of its call. Made again, one after another, such edits
-/// give the content after each call.
+/// An edit that changed a cell, and the number of its call. Made again, one after another, such
+/// edits give the content after each call.
 #[derive(Drop)]
 pub struct Logged {
     pub at: u64,

@@ -2,17 +2,17 @@ ghost use Rattle.std.specs.Prelude.{◌≡◌, ◌<◌, ◌≤◌, [], ◌∷◌
 ghost use Rattle.std.specs.Option.{option_copied};
 ghost use Rattle.std.specs.FinMap.{empty, get};
 ghost use Rattle.std.specs.FinMap.Entries.{put, is_sorted, where_key};
+ghost use Rattle.std.specs.Ordering.{eq_by_cmp};
 ghost use Rattle.store_trait.specs.Names.{name_cmp, may_stand};
 ghost use Rattle.store_trait.specs.Contents.{is_past, first_past, named};
-ghost use Rattle.store_trait.specs.Edits.{hit, may_leave};
-ghost use Rattle.store_trait.specs.Calls.{counted_call};
+ghost use Rattle.store_trait.specs.Edits.{may_leave};
+ghost use Rattle.store_trait.specs.Calls.{counted_call, IsOfKind};
 ghost use Rattle.store_trait.specs.Changes.{as_hit};
-ghost use Rattle.std.specs.Ordering.{eq_by_cmp};
-ghost use Rattle.store_memory.specs.Told.{opened, content_of, IsCounted, fails_next, failed, logged, changes_of, noted};
-ghost use Rattle.store_memory.specs.CallsMade.{IsCall};
+ghost use Rattle.store_memory.specs.Told.{opened, content_of, IsWithinCounts, fails_next, failed, hit_of, logged, changes_of, noted};
+ghost use Rattle.store_memory.specs.CallsMade.{IsAnswer, IsCall};
 
 use crate::log::Logged;
-use crate::places;
+use crate::positions;
 use crate::slot::Slot;
 use doc_value::OutOfMemory;
 use std::alloc::Global;
@@ -22,8 +22,8 @@ use store_trait::{Cell, Changed, Edit, Edited, Name, Named, StoreError, change};
 /// How many calls are counted at most.
 const CALL_LIMIT: u64 = 1 << 63;
 
-/// A store in memory. It keeps the cells in the order of their names, and the log of the edits that changed
-/// them, from which it tells the content after each call. Chosen calls fail.
+/// A store in memory. It keeps the cells in the order of their names, and the log of the edits that
+/// changed them, from which it tells the content after each call. Chosen calls fail.
 #[derive(Drop)]
 pub struct MemoryStore {
     cells: Vec<Slot>,
@@ -42,9 +42,19 @@ impl Model for MemoryStore {
 
     ghost coded = { told_code logged.the_row.coded };
 
-    ghost view = { λ s. record { log = s.log.items; fails = s.fails.items; calls = s.calls; faults = s.faults } };
+    ghost view = { λ s. record {
+      log = s.log.items;
+      fails = s.fails.items;
+      calls = s.calls;
+      faults = s.faults;
+    } };
 
-    ghost invariant = { λ s. IsKept s.cells.items (record { log = s.log.items; fails = s.fails.items; calls = s.calls; faults = s.faults }) };
+    ghost invariant = { λ s. IsKept s.cells.items (record {
+      log = s.log.items;
+      fails = s.fails.items;
+      calls = s.calls;
+      faults = s.faults;
+    }) };
 }
 
 impl MemoryStore {
@@ -80,7 +90,7 @@ impl MemoryStore {
     fn fail(&mut self) -> StoreError
         ensures told { self.new ≡ failed self.old }
         ensures error { result ≡ StoreError.Failed }
-        ensures counted { IsCounted self.old }
+        ensures counted { IsWithinCounts self.old }
     {
         self.calls = counted_failure(self.calls);
         self.faults = self.faults.saturating_add(1);
@@ -90,14 +100,14 @@ impl MemoryStore {
     /// The cell under a name.
     pub(crate) fn find(&mut self, alloc: Global, name: &Name) -> Result<Option<Cell>, StoreError>
         ensures found { IfOk result (λ found. found ≡ get (content_of self.old) name.now) }
-        ensures kind { IfOk result (λ found. IfSome found (λ cell. IsTrue (may_stand name.now cell))) }
+        ensures kind { IfOk result (IsOfKind name.now) }
         ensures call { IsCall self.old self.new [] result }
     {
         if self.fails_next() {
             return Err(self.fail());
         }
         self.calls += 1;
-        let found = places::copy_under(alloc, &self.cells, name)?;
+        let found = positions::copy_under(alloc, &self.cells, name)?;
         Ok(found)
     }
 
@@ -107,18 +117,19 @@ impl MemoryStore {
         alloc: Global,
         after: Option<&Name>,
     ) -> Result<Option<Named>, StoreError>
-        ensures found { IfOk result
-            (λ found. found ≡ option_map named (first_past (option_copied after.entry) (content_of self.old))) }
-        ensures past { IfOk result
-            (λ found. IfSome found (λ it. IsTrue (is_past (option_copied after.entry) it.name))) }
-        ensures kind { IfOk result (λ found. IfSome found (λ it. IsTrue (may_stand it.name it.cell))) }
+        ensures found { IfOk result (λ found. found ≡
+            option_map named (first_past (option_copied after.entry) (content_of self.old))) }
+        ensures past { IfOk result (λ found. IfSome found
+            (λ it. IsTrue (is_past (option_copied after.entry) it.name))) }
+        ensures kind { IfOk result (λ found. IfSome found
+            (λ it. IsTrue (may_stand it.name it.cell))) }
         ensures call { IsCall self.old self.new [] result }
     {
         if self.fails_next() {
             return Err(self.fail());
         }
         self.calls += 1;
-        let found = places::copy_past(alloc, &self.cells, after)?;
+        let found = positions::copy_past(alloc, &self.cells, after)?;
         Ok(found)
     }
 
@@ -129,10 +140,8 @@ impl MemoryStore {
         name: &Name,
         edit: &Edit,
     ) -> Result<Edited, StoreError>
-        ensures hit { IfOk result
-            (λ done. done.hit ≡ is_some (hit edit.now name.now (get (content_of self.old) name.now))) }
-        ensures after { IfOk result (λ done. done.cell ≡ get (content_of self.new) name.now) }
-        ensures kind { IfOk result (λ done. IfSome done.cell (λ cell. IsTrue (may_stand name.now cell))) }
+        ensures done { IfOk result
+            (IsAnswer (is_some (hit_of self.old name.now edit.now)) name.now self.new) }
         ensures call { IsCall self.old self.new (changes_of self.old name.now edit.now) result }
     {
         if self.fails_next() {
@@ -144,12 +153,10 @@ impl MemoryStore {
 
     /// Makes an edit in a call that is counted.
     fn apply(&mut self, alloc: Global, name: &Name, edit: &Edit) -> Result<Edited, OutOfMemory>
-        ensures hit { IfOk result
-            (λ done. done.hit ≡ is_some (hit edit.now name.now (get (content_of self.old) name.now))) }
-        ensures after { IfOk result (λ done. done.cell ≡ get (content_of self.new) name.now) }
-        ensures kind { IfOk result (λ done. IfSome done.cell (λ cell. IsTrue (may_stand name.now cell))) }
+        ensures done { IfOk result
+            (IsAnswer (is_some (hit_of self.old name.now edit.now)) name.now self.new) }
         ensures told { OnOk result (self.new ≡ noted self.old
-            (logged self.old.calls name.now edit.now (hit edit.now name.now (get (content_of self.old) name.now)))) }
+            (logged self.old.calls name.now edit.now (hit_of self.old name.now edit.now))) }
         ensures err { OnErr result (self.new ≡ self.old) }
     {
         match self.changed(alloc, name, edit)? {
@@ -161,20 +168,17 @@ impl MemoryStore {
 
     /// What an edit makes of the cell under a name.
     fn changed(&self, alloc: Global, name: &Name, edit: &Edit) -> Result<Changed, OutOfMemory>
-        ensures hit { IfOk result
-            (λ changed. as_hit changed ≡ hit edit.now name.now (get (content_of self.now) name.now)) }
+        ensures hit { IfOk result (λ changed. as_hit changed ≡ hit_of self.now name.now edit.now) }
         ensures kind { IfOk result (λ changed. IsTrue (may_leave name.now (as_hit changed))) }
     {
-        change(alloc, name, edit, places::look(&self.cells, name))
+        change(alloc, name, edit, positions::look(&self.cells, name))
     }
 
     /// What an edit that missed comes to.
     fn miss(&self, alloc: Global, name: &Name) -> Result<Edited, OutOfMemory>
-        ensures hit { IfOk result (λ done. done.hit ≡ false) }
-        ensures after { IfOk result (λ done. done.cell ≡ get (content_of self.now) name.now) }
-        ensures kind { IfOk result (λ done. IfSome done.cell (λ cell. IsTrue (may_stand name.now cell))) }
+        ensures { IfOk result (IsAnswer false name.now self.now) }
     {
-        let cell = places::copy_under(alloc, &self.cells, name)?;
+        let cell = positions::copy_under(alloc, &self.cells, name)?;
         Ok(Edited { hit: false, cell })
     }
 
@@ -186,12 +190,11 @@ impl MemoryStore {
         edit: &Edit,
         after: Cell,
     ) -> Result<Edited, OutOfMemory>
-        requires hits { hit edit.now name.now (get (content_of self.old) name.now) ≡ Some (Some after) }
+        requires hits { hit_of self.old name.now edit.now ≡ Some (Some after) }
         requires kind { IsTrue (may_stand name.now after) }
-        ensures hit { IfOk result (λ done. done.hit ≡ true) }
-        ensures after { IfOk result (λ done. done.cell ≡ get (content_of self.new) name.now) }
-        ensures kind { IfOk result (λ done. IfSome done.cell (λ cell. IsTrue (may_stand name.now cell))) }
-        ensures told { OnOk result (self.new ≡ noted self.old (logged self.old.calls name.now edit.now (Some (Some after)))) }
+        ensures done { IfOk result (IsAnswer true name.now self.new) }
+        ensures told { OnOk result (self.new ≡ noted self.old
+            (logged self.old.calls name.now edit.now (Some (Some after)))) }
         ensures err { OnErr result (self.new ≡ self.old) }
     {
         let cell = write(
@@ -211,11 +214,10 @@ impl MemoryStore {
 
     /// Takes out the cell under a name, as an edit does.
     fn take_out(&mut self, alloc: Global, name: &Name, edit: &Edit) -> Result<Edited, OutOfMemory>
-        requires hits { hit edit.now name.now (get (content_of self.old) name.now) ≡ Some None }
-        ensures hit { IfOk result (λ done. done.hit ≡ true) }
-        ensures after { IfOk result (λ done. done.cell ≡ get (content_of self.new) name.now) }
-        ensures kind { IfOk result (λ done. IfSome done.cell (λ cell. IsTrue (may_stand name.now cell))) }
-        ensures told { OnOk result (self.new ≡ noted self.old (logged self.old.calls name.now edit.now (Some None))) }
+        requires hits { hit_of self.old name.now edit.now ≡ Some None }
+        ensures done { IfOk result (IsAnswer true name.now self.new) }
+        ensures told { OnOk result (self.new ≡ noted self.old
+            (logged self.old.calls name.now edit.now (Some None))) }
         ensures err { OnErr result (self.new ≡ self.old) }
     {
         erase(
@@ -241,8 +243,8 @@ fn counted_failure(calls: u64) -> u64
     if calls < CALL_LIMIT { calls + 1 } else { calls }
 }
 
-/// Puts the cell that an edit makes under a name, and the edit into the log; answers a copy of the cell.
-/// Memory is taken first.
+/// Puts the cell that an edit makes under a name, and the edit into the log; answers a copy of the
+/// cell. Memory is taken first.
 fn write(
     alloc: Global,
     cells: &mut Vec<Slot>,
@@ -255,19 +257,21 @@ fn write(
     requires { IsTrue (is_sorted name_cmp cells.old.items) }
     ensures answer { IfOk result (λ cell. cell ≡ after) }
     ensures cells { OnOk result (cells.new.items ≡ put name_cmp name.now after cells.old.items) }
-    ensures log { OnOk result (log.new.items ≡ log.old.items ++ logged call name.now edit.now (Some (Some after))) }
+    ensures log { OnOk result
+        (log.new.items ≡ log.old.items ++ logged call name.now edit.now (Some (Some after))) }
     ensures cells_err { OnErr result (cells.new.items ≡ cells.old.items) }
     ensures log_err { OnErr result (log.new.items ≡ log.old.items) }
 {
     let answer = after.copy(alloc)?;
     let change = logged_change(alloc, call, name, edit)?;
     log.reserve(1)?;
-    places::put(alloc, cells, name, after)?;
+    positions::put(alloc, cells, name, after)?;
     note(log, change);
     Ok(answer)
 }
 
-/// Takes out the cell under a name, and notes the edit that does so in the log. Memory is taken first.
+/// Takes out the cell under a name, and notes the edit that does so in the log. Memory is taken
+/// first.
 fn erase(
     alloc: Global,
     cells: &mut Vec<Slot>,
@@ -279,20 +283,22 @@ fn erase(
     requires { IsTrue (is_sorted name_cmp cells.old.items) }
     ensures cells { OnOk result (cells.new.items
         ≡ where_key name_cmp (λ other. not (eq_by_cmp name_cmp name.now other)) cells.old.items) }
-    ensures log { OnOk result (log.new.items ≡ log.old.items ++ logged call name.now edit.now (Some None)) }
+    ensures log { OnOk result
+        (log.new.items ≡ log.old.items ++ logged call name.now edit.now (Some None)) }
     ensures cells_err { OnErr result (cells.new.items ≡ cells.old.items) }
     ensures log_err { OnErr result (log.new.items ≡ log.old.items) }
 {
     let change = logged_change(alloc, call, name, edit)?;
     log.reserve(1)?;
     note(log, change);
-    places::take_out(cells, name);
+    positions::take_out(cells, name);
     Ok(())
 }
 
 /// An edit of a cell in a call.
 fn logged_change(alloc: Global, call: u64, name: &Name, edit: &Edit) -> Result<Logged, OutOfMemory>
-    ensures { IfOk result (λ change. change ≡ record { at = call; name = name.now; edit = edit.now }) }
+    ensures { IfOk result (λ change. change ≡
+        record { at = call; name = name.now; edit = edit.now }) }
 {
     let name = name.copy(alloc)?;
     let edit = edit.copy(alloc)?;

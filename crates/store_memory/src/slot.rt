@@ -5,8 +5,8 @@ use std::alloc::Global;
 use std::marker::Model;
 use store_trait::{Cell, Name};
 
-/// A cell under its name. It stands behind a box, so that a vector which makes room for one more moves
-/// a pointer for each cell behind it.
+/// A cell under its name. It stands behind a box, so that a vector which makes room for one more
+/// moves a pointer for each cell behind it.
 #[derive(Drop)]
 pub(crate) struct Slot {
     entry: Box<(Name, Cell)>,

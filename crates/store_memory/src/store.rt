@@ -1,12 +1,12 @@
-ghost use Rattle.std.specs.Prelude.{◌≡◌, ◌↔◌, ◌≤◌, [], true, IsTrue, IfOk, IfSome, IsErrOf, OnOk, OnErr, is_some, option_map, refl};
+ghost use Rattle.std.specs.Prelude.{◌≡◌, true, IsTrue, IfOk, IfSome, IsErrOf, option_map, refl};
 ghost use Rattle.std.specs.Option.{option_copied};
 ghost use Rattle.std.specs.FinMap.{get};
 ghost use Rattle.store_trait.specs.Names.{may_stand};
 ghost use Rattle.store_trait.specs.Contents.{is_past, first_past, named};
-ghost use Rattle.store_trait.specs.Edits.{hit, edited, left};
-ghost use Rattle.store_trait.specs.Calls.{Reads, Edits as EditsCell, Lists, OneCall, call_limit, counted_call};
-ghost use Rattle.store_memory.specs.Told.{content_of, place_of, calls_of, faults_of, fails_next, changes_of};
-ghost use Rattle.store_memory.specs.CallsMade.{Answered, IsCall};
+ghost use Rattle.store_trait.specs.Edits.{left};
+ghost use Rattle.store_trait.specs.Calls.{Reads, Edits as EditsCell, Lists, Extends, IsCounted, IsMade, IsOfKind};
+ghost use Rattle.store_memory.specs.Told.{content_of, trail_of, calls_of, faults_of};
+ghost use Rattle.store_memory.specs.CallsMade.{Answered};
 
 use crate::memory::MemoryStore;
 use std::alloc::Global;
@@ -17,7 +17,7 @@ impl Store for MemoryStore {
 
     ghost content = { content_of };
 
-    ghost place = { place_of };
+    ghost trail = { trail_of };
 
     ghost calls = { calls_of };
 
@@ -25,58 +25,49 @@ impl Store for MemoryStore {
 
     ghost answered = { Answered };
 
-    /// The cell under a name. The call fails exactly where its number is among those that fail; one that
-    /// is refused for memory is counted.
+    /// The cell under a name. The call fails exactly where its number is among those that fail; one
+    /// that is refused for memory is counted.
     fn read(&mut self, alloc: Global, name: &Name) -> Result<Option<Cell>, StoreError>
         ensures found { IfOk result (λ found. found ≡ get (content_of self.old) name.now) }
         ensures same { content_of self.new ≡ content_of self.old }
-        ensures kind { IfOk result (λ found. IfSome found (λ cell. IsTrue (may_stand name.now cell))) }
-        ensures call { OneCall true content_of place_of calls_of faults_of self.old self.new result StoreError.Failed }
-        ensures counted { calls_of self.new ≡ counted_call (calls_of self.old) }
-        ensures spent { call_limit ≤ calls_of self.old → IsErrOf result StoreError.Failed }
-        ensures answered { IfOk result (λ found. Answered self.old (Reads name.now found) self.new) }
-        ensures failed { IsErrOf result StoreError.Failed ↔ IsTrue (fails_next self.old) }
-        ensures told { IsCall self.old self.new [] result }
+        ensures kind { IfOk result (IsOfKind name.now) }
+        ensures answered { Answered self.old (Reads name.now result) self.new }
+        ensures trail { Extends content_of trail_of calls_of self.old self.new }
+        ensures counted { IsCounted calls_of faults_of self.old self.new result }
     {
         self.find(alloc, name)
     }
 
-    /// Makes an edit where its guard holds. The call fails exactly where its number is among those that
-    /// fail; one that is refused for memory is counted, and leaves the content.
+    /// Makes an edit where its guard holds. The call fails exactly where its number is among those
+    /// that fail; one that is refused for memory is counted, and leaves the content.
     fn edit(&mut self, alloc: Global, name: &Name, edit: &Edit) -> Result<Edited, StoreError>
-        ensures made { OnOk result (content_of self.new ≡ edited (content_of self.old) name.now edit.now) }
-        ensures hit { IfOk result
-            (λ done. done.hit ≡ is_some (hit edit.now name.now (get (content_of self.old) name.now))) }
-        ensures after { IfOk result (λ done. done.cell ≡ get (content_of self.new) name.now) }
-        ensures left { OnErr result (left (content_of self.old) name.now edit.now (content_of self.new)) }
-        ensures kind { IfOk result (λ done. IfSome done.cell (λ cell. IsTrue (may_stand name.now cell))) }
-        ensures call { OneCall true content_of place_of calls_of faults_of self.old self.new result StoreError.Failed }
-        ensures counted { calls_of self.new ≡ counted_call (calls_of self.old) }
-        ensures spent { call_limit ≤ calls_of self.old → IsErrOf result StoreError.Failed }
-        ensures answered { IfOk result
-            (λ done. Answered self.old (EditsCell name.now edit.now done.hit done.cell) self.new) }
-        ensures failed { IsErrOf result StoreError.Failed ↔ IsTrue (fails_next self.old) }
-        ensures told { IsCall self.old self.new (changes_of self.old name.now edit.now) result }
+        ensures made { IfOk result
+            (IsMade (content_of self.old) name.now edit.now (content_of self.new)) }
+        ensures failed { IsErrOf result StoreError.Failed →
+            left (content_of self.old) name.now edit.now (content_of self.new) }
+        ensures refused { IsErrOf result StoreError.OutOfMemory →
+            content_of self.new ≡ content_of self.old }
+        ensures kind { IfOk result (λ done. IsOfKind name.now done.cell) }
+        ensures answered { Answered self.old (EditsCell name.now edit.now result) self.new }
+        ensures trail { Extends content_of trail_of calls_of self.old self.new }
+        ensures counted { IsCounted calls_of faults_of self.old self.new result }
     {
         self.make(alloc, name, edit)
     }
 
-    /// The first cell past a name, or the first of all. The call fails exactly where its number is among
-    /// those that fail; one that is refused for memory is counted.
+    /// The first cell past a name, or the first of all. The call fails exactly where its number is
+    /// among those that fail; one that is refused for memory is counted.
     fn next(&mut self, alloc: Global, after: Option<&Name>) -> Result<Option<Named>, StoreError>
-        ensures found { IfOk result
-            (λ found. found ≡ option_map named (first_past (option_copied after.entry) (content_of self.old))) }
+        ensures found { IfOk result (λ found. found ≡
+            option_map named (first_past (option_copied after.entry) (content_of self.old))) }
         ensures same { content_of self.new ≡ content_of self.old }
-        ensures past { IfOk result
-            (λ found. IfSome found (λ it. IsTrue (is_past (option_copied after.entry) it.name))) }
-        ensures kind { IfOk result (λ found. IfSome found (λ it. IsTrue (may_stand it.name it.cell))) }
-        ensures call { OneCall true content_of place_of calls_of faults_of self.old self.new result StoreError.Failed }
-        ensures counted { calls_of self.new ≡ counted_call (calls_of self.old) }
-        ensures spent { call_limit ≤ calls_of self.old → IsErrOf result StoreError.Failed }
-        ensures answered { IfOk result
-            (λ found. Answered self.old (Lists (option_copied after.entry) found) self.new) }
-        ensures failed { IsErrOf result StoreError.Failed ↔ IsTrue (fails_next self.old) }
-        ensures told { IsCall self.old self.new [] result }
+        ensures past { IfOk result (λ found. IfSome found
+            (λ it. IsTrue (is_past (option_copied after.entry) it.name))) }
+        ensures kind { IfOk result (λ found. IfSome found
+            (λ it. IsTrue (may_stand it.name it.cell))) }
+        ensures answered { Answered self.old (Lists (option_copied after.entry) result) self.new }
+        ensures trail { Extends content_of trail_of calls_of self.old self.new }
+        ensures counted { IsCounted calls_of faults_of self.old self.new result }
     {
         self.find_past(alloc, after)
     }

@@ -1,56 +1,74 @@
 -- How a call begins.
-use Rattle.std.proofs.Common.{◌≡◌, ◌≤◌, ℕ, Bool, true, List, [], ◌++◌, IsTrue, ◌⊎◌, ⊎_elim, inl, refl, sym, ap, ◌∙◌, subst}
+use Rattle.std.proofs.Common.{◌≡◌, ◌≤◌, ℕ, Bool, true, false, List, [], ◌++◌, IsTrue, ◌⊎◌, ⊎_elim, inl, refl, sym, ap, ◌∙◌, subst, arith}
 use Rattle.std.proofs.lemmas.List.{append-nil}
 use Rattle.store_trait.specs.Contents.{Content}
+use Rattle.store_trait.specs.declared.store.Store.{Ghosts}
+use Rattle.txn_io.specs.Unread.{Unread}
 use Rattle.txn_runner.specs.Calm.{IsCalm}
-use Rattle.txn_cli.specs.Batches.{MayRun}
-use Rattle.txn_cli.specs.Leaving.{Stays}
-use Rattle.txn_cli.specs.Play.{Progress, opening, Plays, StandOnTrail, has_no_cell}
-use Rattle.txn_cli.specs.Reading.{HasStopped}
-use Rattle.txn_cli.specs.Runs.{RunsGoOn}
-use Rattle.txn_cli.specs.Sessions.{IsHeld, IsNew, at}
-use Rattle.txn_cli.specs.declared.done.Run.{Run}
+use Rattle.txn_play.specs.Batches.{MayRun}
+use Rattle.txn_play.specs.Leaving.{Stays}
+use Rattle.txn_play.specs.Progress.{Progress, has_no_cell}
+use Rattle.txn_play.specs.Runs.{RunsGoOn}
+use Rattle.txn_play.specs.Sessions.{IsBetween, IsNew, at}
+use Rattle.txn_play.specs.declared.run.Run.{Run}
+use Rattle.txn_play.specs.declared.session.Session.{Session}
+use Rattle.txn_play.proofs.Opening.{none_is_empty}
+use Rattle.txn_play.proofs.Sessions.{opens_calm, nothing_waits}
+use Rattle.txn_cli.specs.Call.{HasStopped, Held, Taken, start}
+use Rattle.txn_cli.specs.Output.{Writing, answers_text}
+use Rattle.txn_cli.specs.Script.{Plays}
 use Rattle.txn_cli.specs.declared.fault.Fault.{Fault}
 use Rattle.txn_cli.specs.declared.fault.Fault.TheVariants as fault
-use Rattle.txn_cli.specs.declared.session.Session.{Session}
 use Rattle.txn_cli.proofs.Coming.{HasCome}
-use Rattle.txn_cli.proofs.Opening.{none_is_empty}
-use Rattle.txn_cli.proofs.Sessions.{opens_calm, nothing_waits}
 
-module _ {S : Type 0} (content : S → Content) (trail : S → ℕ → Content) (calls : S → ℕ) (old new : Session S) (begins : IsNew old) where
-  pub begins_held : has_no_cell (content old.store) ≡ true → content new.store ≡ content old.store → new.batch ≡ old.batch → new.runs.items ≡ old.runs.items → new.begun ≡ old.begun → IsHeld content trail calls new
-  begins_held nothing same batch runs begun = record {
-    may_run = subst (MayRun (content new.store)) (sym (batch ∙ begins.batch)) (nothing_waits (content new.store) (subst IsCalm (sym (same ∙ none_is_empty (content old.store) nothing)) opens_calm));
-    runs = subst (λ (rs : List Run). RunsGoOn (trail new.store) rs (calls new.store)) (sym (runs ∙ begins.runs)) tt;
+-- the first look at the store was made, by one call that changed nothing
+module _ {S : Type 0} (store : Ghosts S) (old new : Session S) (begins : IsNew old) where
+  pub begins_stands : has_no_cell (store.content old.store) ≡ true → store.content new.store ≡ store.content old.store → new.batch ≡ old.batch → new.runs.items ≡ old.runs.items → new.begun ≡ old.begun → IsBetween store new
+  begins_stands nothing same batch runs begun = record {
+    may_run = subst (MayRun (store.content new.store)) (sym (batch ∙ begins.batch)) (nothing_waits (store.content new.store) (subst IsCalm (sym (same ∙ none_is_empty (store.content old.store) nothing)) opens_calm));
+    runs = subst (λ (rs : List Run). RunsGoOn (store.trail new.store) rs (store.calls new.store)) (sym (runs ∙ begins.runs)) tt;
     unbegun = λ e. (batch ∙ begins.batch, runs ∙ begins.runs);
   }
 
-module _ {S : Type 0} (content : S → Content) (old new : Session S) (script : List ℕ) (sink_tells : Bool) (written : List ℕ) (begins : IsNew old) where
-  pub begins_come : (trail : ℕ → Content) (from to : ℕ) → from ≤ to → content new.store ≡ content old.store → new.was_empty ≡ has_no_cell (content old.store) → new.batch ≡ old.batch → new.runs.items ≡ old.runs.items → new.begun ≡ old.begun → HasCome content trail from to script (opening (content old.store)) 0 0 script new sink_tells written written
-  begins_come trail from to le same was batch runs begun = record {
-    printed = [];
-    plays = record { plays = opened.0; rest = refl; taken = refl };
-    stand = opened.1;
-    writes = λ told. sym (append-nil written);
+  pub begins_come : (script : List ℕ) (left : Unread) (w : Writing) → left.taken ≡ 0 → left.left ≡ script → w.after ≡ w.before
+      → store.calls old.store ≤ store.calls new.store → store.trail new.store (store.calls new.store) ≡ store.content new.store
+      → store.content new.store ≡ store.content old.store → new.was_empty ≡ has_no_cell (store.content old.store) → new.batch ≡ old.batch → new.runs.items ≡ old.runs.items → new.begun ≡ old.begun
+      → HasCome store script (store.trail new.store) (start store old.store) 0 left new w
+  begins_come script left w none all unwritten later here same was batch runs begun = record {
+    answers = [];
+    at = record {
+      plays = subst (λ (p : Progress). Plays script (store.trail new.store) (start store old.store) 0 p []) (sym still) (Plays.Opens (store.calls new.store) (record { later = later; stands = here ∙ same }));
+      rest = sym all;
+      taken = sym none;
+    };
+    writes = λ told. unwritten ∙ sym (append-nil w.before);
   }
     where
-      still : at content new [] ≡ opening (content old.store)
-      still = λ i. record { content = same i; waiting = (batch ∙ begins.batch) i; begun = (begun ∙ begins.begun) i; was_empty = was i; runs = (runs ∙ begins.runs) i; printed = [] }
+      still : at store new ≡ record (start store old.store) { calls = store.calls new.store }
+      still = λ i. record { content = same i; calls = store.calls new.store; waiting = (batch ∙ begins.batch) i; begun = (begun ∙ begins.begun) i; was_empty = was i; runs = (runs ∙ begins.runs) i }
 
-      opened : (plays : Plays script (opening (content old.store)) 0 (at content new [])) × StandOnTrail trail from to plays
-      opened = subst (λ (p : Progress). (plays : Plays script (opening (content old.store)) 0 p) × StandOnTrail trail from to plays) (sym still) (Plays.Opens, le)
+-- the call is refused before any line
+module _ (taken : Taken) (begun : Progress) (end : Held) (w : Writing) (unwritten : w.after ≡ w.before) (later : begun.calls ≤ end.calls) (here : end.trail end.calls ≡ begun.content)
+    (holds : end.content ≡ begun.content) (runs : end.runs ≡ begun.runs) where
+  stays : Stays (record { content = begun.content; runs = begun.runs }) (record { content = end.content; runs = end.runs })
+  stays = record { holds = holds; runs = runs }
 
-module _ (script untaken : List ℕ) (start : Progress) (content : Content) (trail : ℕ → Content) (from to : ℕ) (runs : List Run) (sink_tells : Bool) (written : List ℕ) (le : from ≤ to) (none : start.printed ≡ []) (stays : Stays start.content start.runs content runs) where
-  unwritten : IsTrue sink_tells → written ≡ written ++ start.printed
-  unwritten told = sym (ap (λ (l : List ℕ). written ++ l) none ∙ append-nil written)
+  written : IsTrue w.tells → w.after ≡ w.before ++ []
+  written told = unwritten ∙ sym (append-nil w.before)
+
+  abbrev last : Progress
+  last = record begun { calls = end.calls }
+
+  opens : Plays taken.script end.trail begun 0 last []
+  opens = Plays.Opens end.calls (record { later = later; stands = here })
 
   -- the words aren't in the grammar
-  pub begins_refused : HasStopped script untaken start content trail from to fault.Words runs sink_tells written written
-  begins_refused = record { done = 0; last = start; plays = Plays.Opens; stand = le; unspent = tt; stops = (record { next = refl; left = stays }, unwritten) }
+  pub begins_refused : HasStopped taken begun end w fault.Words
+  begins_refused = record { reached = record { count = 0; last = last; answers = [] }; plays = opens; later = omega arith; unspent = tt; stops = (record { next = refl; left = stays }, written) }
 
   -- the first look at the store is refused
-  pub begins_stopped : (why : Fault) → (why ≡ fault.Store) ⊎ (why ≡ fault.OutOfMemory) → HasStopped script untaken start content trail from to why runs sink_tells written written
+  pub begins_stopped : (why : Fault) → (why ≡ fault.Store) ⊎ (why ≡ fault.OutOfMemory) → HasStopped taken begun end w why
   begins_stopped why is = ⊎_elim
-      (λ store. subst (λ (f : Fault). HasStopped script untaken start content trail from to f runs sink_tells written written) (sym store) (record { done = 0; last = start; plays = Plays.Opens; stand = le; unspent = tt; stops = (record { next = tt; left = inl stays }, unwritten) }))
-      (λ memory. subst (λ (f : Fault). HasStopped script untaken start content trail from to f runs sink_tells written written) (sym memory) (record { done = 0; last = start; plays = Plays.Opens; stand = le; unspent = tt; stops = (record { next = tt; left = inl stays }, unwritten) }))
+      (λ e. subst (HasStopped taken begun end w) (sym e) (record { reached = record { count = 0; last = last; answers = [] }; plays = opens; later = omega arith; unspent = tt; stops = (record { next = tt; left = inl stays }, written) }))
+      (λ e. subst (HasStopped taken begun end w) (sym e) (record { reached = record { count = 0; last = last; answers = [] }; plays = opens; later = omega arith; unspent = tt; stops = (inl (record { next = tt; left = inl stays }), written) }))
       is

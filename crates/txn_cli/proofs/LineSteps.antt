@@ -1,20 +1,30 @@
 -- A line in two steps: a batch that is let run first, and the line itself.
-use Rattle.std.proofs.Common.{◌≡◌, ◌≤◌, ℕ, Bool, true, false, List, [], ◌++◌, Option, Some, None, Result, Ok, Err, OnOk, IfErr, refl, sym, ap, ◌∙◌, subst, arith}
+use Rattle.std.proofs.Common.{◌≡◌, ◌≢◌, ◌≤◌, ◌⊎◌, ⊎_elim, inl, inr, ℕ, Bool, true, false, List, [], ◌++◌, Option, Some, None, Result, Ok, Err, OnOk, IfErr, IfOk, IsTrue, refl, sym, ap, ◌∙◌, subst, arith}
+use Rattle.std.specs.Prelude.{IfSome}
 use Rattle.std.proofs.lemmas.List.{append-nil}
 use Rattle.store_trait.specs.Contents.{Content}
-use Rattle.txn_cli.specs.Doing.{HasDone, HasDoneLine, HasRunFirst, HasStoppedLine, RunsBefore, RunsFirst, StopsAs}
-use Rattle.txn_cli.specs.Leaving.{line_may_run, runs_batch}
-use Rattle.txn_cli.specs.Play.{Progress, Does, PlaysAs, PlaysLine, is_allowed, lets_run, line_lets_run}
-use Rattle.txn_cli.specs.Refusals.{IsOfLine, not_built}
-use Rattle.txn_cli.specs.Sessions.{at}
-use Rattle.txn_cli.specs.declared.fault.Fault.{Fault}
-use Rattle.txn_cli.specs.declared.fault.Fault.TheVariants as fault
-use Rattle.txn_cli.specs.declared.session.Session.{Session}
+use Rattle.store_trait.specs.declared.store.Store.{Ghosts}
 use Rattle.txn_script.specs.Statements.{line_in}
+use Rattle.txn_script.specs.Faults.{fault_text as script_text}
 use Rattle.txn_script.specs.declared.fault.ScriptFault.{ScriptFault}
+use Rattle.txn_script.specs.declared.fault.ScriptFault.TheVariants as script_fault
 use Rattle.txn_script.specs.declared.statement.Statement.{Statement}
 use Rattle.txn_script.specs.declared.statement.Statement.TheVariants as statement
-use Rattle.txn_cli.proofs.Refused.{left_more, unbuilt_line}
+use Rattle.txn_play.specs.Leaving.{Stays}
+use Rattle.txn_play.specs.Progress.{Progress, Does, is_allowed, lets_run, runs_batch}
+use Rattle.txn_play.specs.Sessions.{at, holding}
+use Rattle.txn_play.specs.declared.answer.Answer.{Answer}
+use Rattle.txn_play.specs.declared.answer.Answer.TheVariants as answer
+use Rattle.txn_play.specs.declared.refusal.Refusal.{Refusal}
+use Rattle.txn_play.specs.declared.refusal.Refusal.TheVariants as refusal
+use Rattle.txn_play.specs.declared.session.Session.{Session}
+use Rattle.txn_play.proofs.BatchRuns.{left_more}
+use Rattle.txn_cli.specs.Faults.{stop_of_reading}
+use Rattle.txn_cli.specs.Line.{Between, Deed, HasDone, HasDoneCut, HasDoneIdly, HasDoneLine, HasRunFirst, HasStoppedLine, LeftBy, RefusedBy, RefusedWhere, RunsFirst, performing, playing, running_first, up_to, from}
+use Rattle.txn_cli.specs.Output.{Writing, Wrote}
+use Rattle.txn_cli.specs.Script.{PlaysAs, PlaysLine, RefusedAs, line_lets_run, line_may_run}
+use Rattle.txn_cli.specs.declared.stop.Stop.{Stop}
+use Rattle.txn_cli.specs.declared.stop.Stop.TheVariants as stop
 
 -- what lets a batch run isn't allowed where it may not run
 not_allowed : (p : Progress) (s : Statement) → lets_run s ≡ true → p.was_empty ≡ false → is_allowed p s ≡ false
@@ -23,82 +33,113 @@ not_allowed p (statement.Doc key body) lets was = absurd (cc)
 not_allowed p (statement.Submit id ops info) lets was = absurd (cc)
 not_allowed p statement.Go lets was = absurd (cc)
 
-lets_may : (s : Statement) → lets_run s ≡ true → line_may_run (Ok (Some s)) ≡ true
-lets_may statement.Show lets = refl
-lets_may (statement.Doc key body) lets = absurd (cc)
-lets_may (statement.Submit id ops info) lets = absurd (cc)
-lets_may statement.Go lets = absurd (cc)
-
 runs_may : (s : Statement) → runs_batch s ≡ true → line_may_run (Ok (Some s)) ≡ true
 runs_may statement.Go runs = refl
 runs_may statement.Show runs = absurd (cc)
 runs_may (statement.Doc key body) runs = absurd (cc)
 runs_may (statement.Submit id ops info) runs = absurd (cc)
 
-module _ {S : Type 0} (content : S → Content) (trail : S → ℕ → Content) (calls : S → ℕ) (line : List ℕ) where
-  -- a refusal leaves no more where more is allowed
-  stops_more : (a b : Bool) (D E : Progress → Progress → Type 0) (old new : Session S) (sink_tells : Bool) (old_written written : List ℕ) (f : Fault) → (a ≡ true → b ≡ true) → ((p q : Progress) → D p q → E p q)
-      → StopsAs content trail a D old new sink_tells old_written written f → StopsAs content trail b E old new sink_tells old_written written f
-  stops_more a b D E old new sink_tells old_written written fault.Output may did h = record { lines = h.lines; did = λ printed. did (at content old printed) (at content new (printed ++ h.lines)) (h.did printed); part = h.part }
-  stops_more a b D E old new sink_tells old_written written fault.Words may did h = (left_more a b (content old.store) old.batch old.runs.items (content new.store) (trail new.store) new.runs.items fault.Words may h.0, h.1)
-  stops_more a b D E old new sink_tells old_written written (fault.Line number text) may did h = (left_more a b (content old.store) old.batch old.runs.items (content new.store) (trail new.store) new.runs.items (fault.Line number text) may h.0, h.1)
-  stops_more a b D E old new sink_tells old_written written fault.Input may did h = (left_more a b (content old.store) old.batch old.runs.items (content new.store) (trail new.store) new.runs.items fault.Input may h.0, h.1)
-  stops_more a b D E old new sink_tells old_written written fault.Store may did h = (left_more a b (content old.store) old.batch old.runs.items (content new.store) (trail new.store) new.runs.items fault.Store may h.0, h.1)
-  stops_more a b D E old new sink_tells old_written written fault.OutOfMemory may did h = (left_more a b (content old.store) old.batch old.runs.items (content new.store) (trail new.store) new.runs.items fault.OutOfMemory may h.0, h.1)
-  stops_more a b D E old new sink_tells old_written written (fault.Spent e) may did h = (left_more a b (content old.store) old.batch old.runs.items (content new.store) (trail new.store) new.runs.items (fault.Spent e) may h.0, h.1)
-  stops_more a b D E old new sink_tells old_written written (fault.Broken e) may did h = (left_more a b (content old.store) old.batch old.runs.items (content new.store) (trail new.store) new.runs.items (fault.Broken e) may h.0, h.1)
-  stops_more a b D E old new sink_tells old_written written (fault.Repeated id) may did h = (left_more a b (content old.store) old.batch old.runs.items (content new.store) (trail new.store) new.runs.items (fault.Repeated id) may h.0, h.1)
+-- what is left by a stop of one deed is left by that of another which may more
+left_by_more : {S : Type 0} (store : Ghosts S) (a b : Deed) (old new : Session S) (w : Writing) (why : Stop) → (a.may_run ≡ true → b.may_run ≡ true) → ((p q : Progress) (answer : Answer) → a.does p q answer → b.does p q answer)
+    → LeftBy store a old new w why → LeftBy store b old new w why
+left_by_more store a b old new w (stop.Misread e) may does h = h
+left_by_more store a b old new w stop.Output may does h = record { done = record { answer = h.done.answer; did = does (at store old) (at store new) h.done.answer h.done.did }; part = h.part }
+left_by_more store a b old new w (stop.Refused refusal.NotBuilt) may does h = h
+left_by_more store a b old new w (stop.Refused refusal.Store) may does h = (left_more a.may_run b.may_run old.batch (store.trail new.store) (holding store old) (holding store new) refusal.Store may h.0, h.1)
+left_by_more store a b old new w (stop.Refused refusal.OutOfMemory) may does h = (
+  ⊎_elim (λ l. inl (left_more a.may_run b.may_run old.batch (store.trail new.store) (holding store old) (holding store new) refusal.OutOfMemory may l))
+    (λ d. inr (record { answer = d.answer; did = does (at store old) (at store new) d.answer d.did })) h.0,
+  h.1,
+)
+left_by_more store a b old new w (stop.Refused (refusal.Spent e)) may does h = (left_more a.may_run b.may_run old.batch (store.trail new.store) (holding store old) (holding store new) (refusal.Spent e) may h.0, h.1)
+left_by_more store a b old new w (stop.Refused (refusal.Broken e)) may does h = (left_more a.may_run b.may_run old.batch (store.trail new.store) (holding store old) (holding store new) (refusal.Broken e) may h.0, h.1)
+left_by_more store a b old new w (stop.Refused (refusal.Repeated id)) may does h = (left_more a.may_run b.may_run old.batch (store.trail new.store) (holding store old) (holding store new) (refusal.Repeated id) may h.0, h.1)
 
+-- a statement that isn't built refuses its line
+refused_by : (s : Statement) (p : Progress) (Where : Type 0) (why : Stop) → (Where → is_allowed p s ≡ false) → RefusedWhere Where why → RefusedBy (Ok (Some s)) p why
+refused_by s p Where (stop.Misread e) not_built h = elim h [ ]
+refused_by s p Where stop.Output not_built h = tt
+refused_by s p Where (stop.Refused refusal.NotBuilt) not_built h = (not_built h, refl)
+refused_by s p Where (stop.Refused refusal.Store) not_built h = tt
+refused_by s p Where (stop.Refused refusal.OutOfMemory) not_built h = tt
+refused_by s p Where (stop.Refused (refusal.Spent e)) not_built h = tt
+refused_by s p Where (stop.Refused (refusal.Broken e)) not_built h = tt
+refused_by s p Where (stop.Refused (refusal.Repeated id)) not_built h = tt
+
+reads_as : (why : ScriptFault) → ((why ≢ script_fault.OutOfMemory) × (stop_of_reading why ≡ stop.Misread why)) ⊎ (why ≡ script_fault.OutOfMemory)
+reads_as script_fault.OutOfMemory = inr refl
+reads_as (script_fault.Operation number op) = inl ((λ e. cc), refl)
+reads_as script_fault.NotJson = inl ((λ e. cc), refl)
+reads_as script_fault.TooDeep = inl ((λ e. cc), refl)
+reads_as script_fault.BadName = inl ((λ e. cc), refl)
+reads_as script_fault.NotWhole = inl ((λ e. cc), refl)
+reads_as script_fault.BadId = inl ((λ e. cc), refl)
+reads_as script_fault.BadBody = inl ((λ e. cc), refl)
+reads_as script_fault.BadInfo = inl ((λ e. cc), refl)
+reads_as script_fault.NoOperations = inl ((λ e. cc), refl)
+reads_as script_fault.TooManyOperations = inl ((λ e. cc), refl)
+reads_as script_fault.NotBuilt = inl ((λ e. cc), refl)
+
+module _ {S : Type 0} (store : Ghosts S) (line : List ℕ) where
   -- a line that states nothing
-  pub skipped_line : (old : Session S) (sink_tells : Bool) (written : List ℕ) → line_in line ≡ Ok None → trail old.store (calls old.store) ≡ content old.store → HasDoneLine content trail calls line old old sink_tells written written
-  skipped_line old sink_tells written read here = record {
-    between = old;
-    mid = written;
+  pub skipped_line : (old : Session S) (w : Writing) → w.after ≡ w.before → line_in line ≡ Ok None → store.trail old.store (store.calls old.store) ≡ store.content old.store → HasDoneLine store line old old w
+  skipped_line old w unwritten read here = record {
+    between = record { session = old; written = w.before };
     first = record {
-      ran = record { lines = []; did = λ printed. subst (λ (r : Result (Option Statement) ScriptFault). RunsFirst (line_lets_run r) (at content old printed) (at content old (printed ++ []))) (sym read) (still printed); writes = λ told. sym (append-nil written) };
+      ran = record { answer = answer.Nothing; did = subst (λ (r : Result (Option Statement) ScriptFault). RunsFirst (line_lets_run r) (at store old) (at store old) answer.Nothing) (sym read) (refl, refl); writes = λ told. sym (append-nil w.before) };
       since = omega arith;
       later = omega arith;
       stands = here;
     };
-    done = record { lines = []; did = λ printed. subst (λ (r : Result (Option Statement) ScriptFault). PlaysAs r (at content old printed) (at content old (printed ++ []))) (sym read) (still printed); writes = λ told. sym (append-nil written) };
+    done = record { answer = answer.Nothing; did = subst (λ (r : Result (Option Statement) ScriptFault). PlaysAs r (at store old) (at store old) answer.Nothing) (sym read) (refl, refl); writes = λ told. unwritten ∙ sym (append-nil w.before) };
   }
+
+  -- a line that is no statement
+  pub misread_line : (old : Session S) (w : Writing) (why : ScriptFault) → w.after ≡ w.before → (why ≢ script_fault.OutOfMemory → line_in line ≡ Err why) → HasStoppedLine store line old old w (stop_of_reading why)
+  misread_line old w why unwritten read = ⊎_elim
+      (λ text. subst (HasStoppedLine store line old old w) (sym text.1) (HasStoppedLine.First
+      (subst (λ (r : Result (Option Statement) ScriptFault). RefusedAs r (at store old) (script_text why)) (sym (read text.0)) refl) (still, none)))
+      (λ memory. subst (λ (e : ScriptFault). HasStoppedLine store line old old w (stop_of_reading e)) (sym memory) (HasStoppedLine.First tt (inl (inl still), none)))
+      (reads_as why)
     where
-      still : (printed : List ℕ) → at content old (printed ++ []) ≡ at content old printed
-      still printed = ap (at content old) (append-nil printed)
+      still : Stays (holding store old) (holding store old)
+      still = record { holds = refl; runs = refl }
+
+      none : Wrote w []
+      none told = unwritten ∙ sym (append-nil w.before)
 
   module _ (s : Statement) (read : line_in line ≡ Ok (Some s)) where
-    -- the first step is refused
-    pub stops_first : (number : ℕ) (old new : Session S) (sink_tells : Bool) (old_written written : List ℕ) (f : Fault) → (IsOfLine f → (lets_run s ≡ true) × (old.was_empty ≡ false) × (f ≡ not_built number))
-        → StopsAs content trail (lets_run s) (RunsBefore (lets_run s)) old new sink_tells old_written written f → HasStoppedLine content trail calls line number old new sink_tells old_written written f
-    stops_first number old new sink_tells old_written written f refused stops = HasStoppedLine.First
-        (unbuilt_line content old line number s f read (λ is. (not_allowed (at content old []) s (refused is).0 (refused is).1, (refused is).2)))
-        (stops_more (lets_run s) (line_may_run (line_in line)) (RunsBefore (lets_run s)) (RunsBefore (line_lets_run (line_in line))) old new sink_tells old_written written f
-        (λ lets. ap line_may_run read ∙ lets_may s lets) (λ p q ran. (ap line_lets_run read ∙ ran.0, ran.1)) stops)
+    -- the first step is stopped
+    pub stops_first : (old new : Session S) (w : Writing) (why : Stop) → RefusedWhere ((lets_run s ≡ true) × (old.was_empty ≡ false)) why
+        → LeftBy store (running_first (lets_run s)) old new w why → HasStoppedLine store line old new w why
+    stops_first old new w why refused l = HasStoppedLine.First
+        (subst (λ (r : Result (Option Statement) ScriptFault). RefusedBy r (at store old) why) (sym read) (refused_by s (at store old) ((lets_run s ≡ true) × (old.was_empty ≡ false)) why (λ e. not_allowed (at store old) s e.0 e.1) refused))
+        (subst (λ (r : Result (Option Statement) ScriptFault). LeftBy store (running_first (line_lets_run r)) old new w why) (sym read) l)
 
-    module _ (old between new : Session S) (sink_tells : Bool) (old_written mid : List ℕ) (ran : HasDone content (RunsFirst (lets_run s)) old between sink_tells old_written mid)
-        (since : calls old.store ≤ calls between.store) (later : calls between.store ≤ calls new.store) (stands : trail new.store (calls between.store) ≡ content between.store) where
-      first : HasRunFirst content trail calls line old between new sink_tells old_written mid
+    module _ (old new : Session S) (w : Writing) (between : Between S) (ran : HasDone store (RunsFirst (lets_run s)) old between.session (up_to w between))
+        (since : store.calls old.store ≤ store.calls between.session.store) (later : store.calls between.session.store ≤ store.calls new.store)
+        (stands : store.trail new.store (store.calls between.session.store) ≡ store.content between.session.store) where
+      first : HasRunFirst store line old new w between
       first = record {
-        ran = subst (λ (r : Result (Option Statement) ScriptFault). HasDone content (RunsFirst (line_lets_run r)) old between sink_tells old_written mid) (sym read) ran;
+        ran = subst (λ (r : Result (Option Statement) ScriptFault). HasDone store (RunsFirst (line_lets_run r)) old between.session (up_to w between)) (sym read) ran;
         since = since;
         later = later;
         stands = stands;
       }
 
-      pub done_line : {T : Type 0} (result : Result T Fault) (written : List ℕ) → OnOk result (HasDone content (Does s) between new sink_tells mid written) → OnOk result (HasDoneLine content trail calls line old new sink_tells old_written written)
-      done_line (Ok x) written done = record {
+      pub done_line : {T : Type 0} (result : Result T Stop) → OnOk result (HasDone store (Does s) between.session new (from w between)) → OnOk result (HasDoneLine store line old new w)
+      done_line (Ok x) done = record {
         between = between;
-        mid = mid;
         first = first;
-        done = subst (λ (r : Result (Option Statement) ScriptFault). HasDone content (PlaysAs r) between new sink_tells mid written) (sym read) done;
+        done = subst (λ (r : Result (Option Statement) ScriptFault). HasDone store (PlaysAs r) between.session new (from w between)) (sym read) done;
       }
-      done_line (Err f) written done = tt
+      done_line (Err e) done = tt
 
-      -- the second step is refused
-      pub stops_then : {T : Type 0} (number : ℕ) (result : Result T Fault) (written : List ℕ) → IfErr result (λ f. IsOfLine f → (is_allowed (at content between []) s ≡ false) × (f ≡ not_built number))
-          → IfErr result (StopsAs content trail (runs_batch s) (Does s) between new sink_tells mid written) → IfErr result (HasStoppedLine content trail calls line number old new sink_tells old_written written)
-      stops_then number (Ok x) written refused stops = tt
-      stops_then number (Err f) written refused stops = HasStoppedLine.Then between mid first
-          (unbuilt_line content between line number s f read refused)
-          (stops_more (runs_batch s) (line_may_run (line_in line)) (Does s) (PlaysLine line) between new sink_tells mid written f
-          (λ runs. ap line_may_run read ∙ runs_may s runs) (λ p q does. subst (λ (r : Result (Option Statement) ScriptFault). PlaysAs r p q) (sym read) does) stops)
+      -- the second step is stopped
+      pub stops_then : {T : Type 0} (result : Result T Stop) (Where : Type 0) → (Where → is_allowed (at store between.session) s ≡ false) → IfErr result (RefusedWhere Where)
+          → IfErr result (LeftBy store (performing s) between.session new (from w between)) → IfErr result (HasStoppedLine store line old new w)
+      stops_then (Ok x) Where not_built refused l = tt
+      stops_then (Err why) Where not_built refused l = HasStoppedLine.Then between first
+          (subst (λ (r : Result (Option Statement) ScriptFault). RefusedBy r (at store between.session) why) (sym read) (refused_by s (at store between.session) Where why not_built refused))
+          (left_by_more store (performing s) (playing line) between.session new (from w between) why
+          (λ runs. ap line_may_run read ∙ runs_may s runs) (λ p q answer does. subst (λ (r : Result (Option Statement) ScriptFault). PlaysAs r p q answer) (sym read) does) l)

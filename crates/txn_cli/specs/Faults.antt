@@ -1,5 +1,5 @@
 -- Why a line was not done, and why a call ended before the end of its script.
-use Rattle.std.specs.Prelude.{◌≡◌, ◌≤◌, ℕ, Bool, false, IsTrue, Option, Some, None, IfSome, Result, IsErrOf, codes}
+use Rattle.std.specs.Prelude.{◌≡◌, ◌≤◌, ◌⊎◌, ℕ, Bool, false, IsTrue, Option, Some, None, IfSome, Result, IsErrOf, codes}
 use Rattle.store_trait.specs.Calls.{Rose}
 use Rattle.store_trait.specs.declared.store.Store.{Ghosts}
 use Rattle.txn_io.specs.declared.lines.LineFault.{LineFault}
@@ -41,6 +41,11 @@ abbrev pub fault_of_stop : ℕ → Stop → Fault
 fault_of_stop number (stop.Misread why) = fault.Line number (script_text why)
 fault_of_stop number (stop.Refused why) = fault_of_refusal number why
 fault_of_stop number stop.Output = fault.Output
+
+-- the same, or want of memory for the text of a refusal
+abbrev pub OrShort : Fault → Fault → Type 0
+OrShort (fault.Line number text) why = (why ≡ fault.Line number text) ⊎ (why ≡ fault.OutOfMemory)
+OrShort other why = why ≡ other
 
 -- how a line stops that was read as no statement
 abbrev pub stop_of_reading : ScriptFault → Stop

@@ -91,6 +91,12 @@ RefusedBy stated p (stop.Misread why) = RefusedAs stated p (script_text why)
 RefusedBy stated p (stop.Refused refusal.NotBuilt) = RefusedAs stated p (script_text NotBuilt)
 RefusedBy stated p _ = Unit {0}
 
+-- what stops a line that was read: where its statement isn't built, this holds
+abbrev pub RefusedWhere : Type 0 → Stop → Type 0
+RefusedWhere where_ (stop.Misread why) = ⊥
+RefusedWhere where_ (stop.Refused refusal.NotBuilt) = where_
+RefusedWhere where_ _ = Unit {0}
+
 -- the session between the two steps of a line, with what was written by then
 pub record Between (S : Type 0) : Type 0 where
   pub session : Session S

@@ -59,9 +59,11 @@ pub record Follows (trail : ℕ → Content) (p q : Progress) : Type 0 where
   pub stands : trail q.calls ≡ q.content
 
 -- The first n lines of a script were done over a store with this trail, one after the other, each batch
--- that runs by itself before what lets it; these are the answers.
+-- that runs by itself before what lets it; these are the answers. Before the first, calls may be made that
+-- change nothing.
 pub data Plays (script : List ℕ) (trail : ℕ → Content) (start : Progress) : ℕ → Progress → List Answer → Type 0 where
-  Opens : Plays script trail start 0 start []
+  Opens : (calls : ℕ) → Follows trail start (record start { calls = calls })
+      → Plays script trail start 0 (record start { calls = calls }) []
   Line : (n : ℕ) (line : List ℕ) (p q : Progress) (answers : List Answer) (answer : Answer)
       → Plays script trail start n p answers → next_of n script ≡ Ok (Some line)
       → PlaysLine line p q answer → Follows trail p q

@@ -4,7 +4,7 @@ ghost use Rattle.std.specs.Prelude.{◌≡◌, ◌≢◌, ◌≤◌, ◌⊎◌, 
 ghost use Rattle.std.specs.List.{list_any};
 ghost use Rattle.store_trait.specs.Stores.{CallsGoOn};
 ghost use Rattle.txn_cli.specs.Call.{HasPlayed, HasRefused, HasStopped, held, start, taken};
-ghost use Rattle.txn_cli.specs.Faults.{IsCaused, NothingFailed, circumstances, counts, fault_of_line, status_of};
+ghost use Rattle.txn_cli.specs.Faults.{IsCaused, NothingFailed, circumstances, counts, fault_of_line, status_of, OrShort};
 ghost use Rattle.txn_cli.specs.Outcomes.{has_aborted, is_aborted};
 ghost use Rattle.txn_cli.specs.Output.{writing};
 ghost use Rattle.txn_cli.specs.Script.{IsValid};
@@ -235,7 +235,7 @@ fn play<S: Store, I: Source, O: Sink>(
 
 /// How a line that wasn't read ends the call: as its refusal, unless memory for the text is wanting.
 fn line_fault(alloc: Global, number: u64, fault: LineFault) -> Fault
-    ensures { (result ≡ fault_of_line number fault) ⊎ (result ≡ Fault.OutOfMemory) }
+    ensures { OrShort (fault_of_line number fault) result }
 {
     match fault {
         LineFault::ReadFault => Fault::Input,

@@ -1,12 +1,11 @@
 //! One line of a script: what it states is done, and what that answers is written.
 
-ghost use Rattle.std.specs.Prelude.{◌≡◌, ◌≢◌, [], Err, true, false, IsTrue, OnOk, IfErr};
+ghost use Rattle.std.specs.Prelude.{◌≡◌, ◌≢◌, [], true, false, IsTrue, OnOk, IfErr};
 ghost use Rattle.txn_cli.specs.Faults.{FailsOnly, counts};
-ghost use Rattle.txn_cli.specs.Line.{HasDone, HasDoneLine, HasStoppedLine, LeftBy, RunsFirst, RunsWaiting, StopsFor, performing, running, running_first};
+ghost use Rattle.txn_cli.specs.Line.{HasDone, HasDoneLine, HasStoppedLine, LeftBy, RefusedWhere, RunsFirst, RunsWaiting, StopsFor, performing, running, running_first};
 ghost use Rattle.txn_cli.specs.Output.{writing};
 ghost use Rattle.txn_play.specs.Progress.{Does, is_allowed, lets_run};
 ghost use Rattle.txn_play.specs.Sessions.{IsKept, Stands, at};
-ghost use Rattle.txn_play.specs.declared.refusal.Refusal.TheVariants.{NotBuilt};
 
 use crate::output::write_answer;
 use crate::stop::Stop;
@@ -56,8 +55,8 @@ fn run_first<S: Store, O: Sink>(
     ensures left { IsTrue S.tells → IfErr result (LeftBy S.Store (running_first (lets_run statement.now))
         session.old session.new (writing O.Sink output.old output.new)) }
     ensures cleared { lets_run statement.now ≡ true → OnOk result (session.new.batch ≡ []) }
-    ensures refused { result ≡ Err (Stop.Refused NotBuilt) →
-        (lets_run statement.now ≡ true) × (session.old.was_empty ≡ false) }
+    ensures refused { IfErr result
+        (RefusedWhere ((lets_run statement.now ≡ true) × (session.old.was_empty ≡ false))) }
     ensures caused { IfErr result (StopsFor S.Store session.old session.new) }
     ensures kept { IsKept S.Store session.old session.new result }
     ensures output { FailsOnly (counts (O.faults output.old) (O.faults output.new)) result Stop.Output }
@@ -88,8 +87,8 @@ pub fn run_waiting<S: Store, O: Sink>(
     ensures left { IsTrue S.tells → IfErr result (LeftBy S.Store running
         session.old session.new (writing O.Sink output.old output.new)) }
     ensures cleared { OnOk result (session.new.batch ≡ []) }
-    ensures refused { result ≡ Err (Stop.Refused NotBuilt) →
-        (session.old.was_empty ≡ false) × (session.old.batch ≢ []) }
+    ensures refused { IfErr result
+        (RefusedWhere ((session.old.was_empty ≡ false) × (session.old.batch ≢ []))) }
     ensures caused { IfErr result (StopsFor S.Store session.old session.new) }
     ensures kept { IsKept S.Store session.old session.new result }
     ensures output { FailsOnly (counts (O.faults output.old) (O.faults output.new)) result Stop.Output }
@@ -114,8 +113,8 @@ fn play_statement<S: Store, O: Sink>(
         session.old session.new (writing O.Sink output.old output.new)) }
     ensures left { IsTrue S.tells → IfErr result (LeftBy S.Store (performing statement)
         session.old session.new (writing O.Sink output.old output.new)) }
-    ensures refused { IsTrue S.tells → result ≡ Err (Stop.Refused NotBuilt) →
-        is_allowed (at S.Store session.old) statement ≡ false }
+    ensures refused { IfErr result
+        (RefusedWhere (IsTrue S.tells → is_allowed (at S.Store session.old) statement ≡ false)) }
     ensures caused { IfErr result (StopsFor S.Store session.old session.new) }
     ensures kept { IsKept S.Store session.old session.new result }
     ensures output { FailsOnly (counts (O.faults output.old) (O.faults output.new)) result Stop.Output }

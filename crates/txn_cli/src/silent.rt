@@ -2,7 +2,7 @@
 
 ghost use Rattle.std.proofs.Common.{false, sym, true≢false};
 ghost use Rattle.store_memory.specs.CallsMade.{Answered};
-ghost use Rattle.store_memory.specs.Told.{content_of, place_of, calls_of, faults_of};
+ghost use Rattle.store_memory.specs.Told.{content_of, trail_of, calls_of, faults_of};
 
 use std::alloc::Global;
 use store_memory::MemoryStore;
@@ -24,7 +24,7 @@ impl Store for SilentStore {
 
     ghost content = { λ s. content_of s.inner };
 
-    ghost place = { λ s. place_of s.inner };
+    ghost trail = { λ s. trail_of s.inner };
 
     ghost calls = { λ s. calls_of s.inner };
 

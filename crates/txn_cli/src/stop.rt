@@ -1,7 +1,7 @@
 //! Why a line was not done to its end.
 
 ghost use Rattle.std.specs.Prelude.{◌≡◌, ◌⊎◌};
-ghost use Rattle.txn_cli.specs.Faults.{fault_of_stop, stop_of_reading};
+ghost use Rattle.txn_cli.specs.Faults.{fault_of_stop, stop_of_reading, OrShort};
 ghost use Rattle.txn_script.specs.Faults.{fault_text as script_text};
 
 use crate::fault::Fault;
@@ -44,7 +44,7 @@ impl Stop {
     /// How the call ends, where that line has the number: as the refusal of it, unless memory for its text
     /// is wanting.
     pub fn at_line(self, alloc: Global, number: u64) -> Fault
-        ensures { (result ≡ fault_of_stop number self) ⊎ (result ≡ Fault.OutOfMemory) }
+        ensures { OrShort (fault_of_stop number self) result }
     {
         match self {
             Stop::Misread(why) => refused_as(alloc, number, why),

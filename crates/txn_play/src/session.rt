@@ -13,7 +13,6 @@ use crate::refusal::{Refusal, refusal_of};
 use crate::run::Run;
 use crate::settling::run_batch;
 use doc_value::Value;
-use sqlite_items::Items;
 use std::alloc::Global;
 use store_trait::Store;
 use txn_key::{Key, TxnId};
@@ -126,7 +125,7 @@ impl<S: Store> Session<S> {
         )?;
         self.batch.clear();
         self.begun = true;
-        Ok(Answer::States(Items::from_vec(states)))
+        Ok(Answer::States(states))
     }
 
     fn show(&mut self, alloc: Global) -> Result<Answer, Refusal>

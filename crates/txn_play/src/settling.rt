@@ -28,14 +28,14 @@ pub fn run_batch<S: Store>(
     store: &mut S,
     runs: &mut Vec<Run>,
     batch: &[Waiting],
-) -> Result<Vec<RecordState>, Refusal>
+) -> Result<Items<RecordState>, Refusal>
     requires may_run { IsTrue S.tells → MayRun (S.content store.old) batch.now }
     requires runs { IsTrue S.tells → RunsGoOn (S.trail store.old) runs.old.items (S.calls store.old) }
     requires built { are_built batch.now ≡ true }
     ensures runs { IsTrue S.tells → RunsGoOn (S.trail store.new) runs.new.items (S.calls store.new) }
     ensures done { IsTrue S.tells → IfOk result
         (λ states. HasRunBatch (S.content store.old) (S.content store.new) batch.now
-            runs.old.items runs.new.items states.items) }
+            runs.old.items runs.new.items states) }
     ensures calm { IsTrue S.tells → OnOk result (IsCalm (S.content store.new)) }
     ensures left { IsTrue S.tells → IfErr result (HasLeft true batch.now (S.trail store.new)
         (record { content = S.content store.old; runs = runs.old.items })
@@ -72,12 +72,12 @@ fn run_all<S: Store>(
     store: &mut S,
     order: &mut Vec<Entry>,
     batch: &[Waiting],
-) -> Result<Vec<RecordState>, Refusal>
+) -> Result<Items<RecordState>, Refusal>
     requires may_run { IsTrue S.tells → MayRun (S.content store.old) batch.now }
     requires built { are_built batch.now ≡ true }
     ensures works { IsTrue S.tells →
         WorksOnBatch S.content S.trail S.calls store.old store.new order.old.items order.new.items batch.now }
-    ensures done { IsTrue S.tells → IfOk result (λ states. IsDoneWith (S.content store.new) batch.now states.items) }
+    ensures done { IsTrue S.tells → IfOk result (λ states. IsDoneWith (S.content store.new) batch.now states) }
     ensures uses { IsTrue S.tells → Uses (S.content store.old) (S.content store.new) (length batch.now) (length batch.now) 0 0 }
     ensures records { IsTrue S.tells → LeavesRecords (S.content store.new) order.old.items order.new.items batch.now }
     ensures unfinished { IsTrue S.tells → IfErr result (LeavesUnfinished (S.content store.new) batch.now) }
@@ -124,12 +124,12 @@ fn settle_all<S: Store>(
     store: &mut S,
     order: &mut Vec<Entry>,
     batch: &[Waiting],
-) -> Result<Vec<RecordState>, Refusal>
+) -> Result<Items<RecordState>, Refusal>
     requires begun { IsTrue S.tells → IsBegun (S.content store.old) batch.now }
     requires built { are_built batch.now ≡ true }
     ensures works { IsTrue S.tells →
         WorksOnBatch S.content S.trail S.calls store.old store.new order.old.items order.new.items batch.now }
-    ensures done { IsTrue S.tells → IfOk result (λ states. IsDoneWith (S.content store.new) batch.now states.items) }
+    ensures done { IsTrue S.tells → IfOk result (λ states. IsDoneWith (S.content store.new) batch.now states) }
     ensures uses { IsTrue S.tells → Uses (S.content store.old) (S.content store.new) (length batch.now) (length batch.now) 0 0 }
     ensures unfinished { IsTrue S.tells → IfErr result (LeavesUnfinished (S.content store.new) batch.now) }
     ensures reason { IsTrue S.tells → IfErr result (HasReason (S.content store.new)) }
@@ -138,7 +138,7 @@ fn settle_all<S: Store>(
     ensures calls { CallsGoOn S.tells S.content S.trail S.calls S.faults store.old store.new }
     ensures fault { IsErrOf result Refusal.Store → Rose (S.faults store.old) (S.faults store.new) }
 {
-    let mut states = Vec::new(alloc);
+    let mut states = Items::new(alloc);
     for txn in batch {
         match settle(alloc, store, order, txn) {
             Ok(outcome) => states.push(RecordState {

@@ -16,7 +16,7 @@ use Rattle.store_laws.specs.Trail.{IsCall, IsTrail, Quiet, Applying, Aborting}
 use Rattle.txn_runner.specs.Running.{HasRun}
 
 pub run_opens : (trail : ℕ → Content) (mark : ℕ) → IsSound (trail mark) → HasRun trail mark mark (meaning (trail mark)) []
-run_opens trail mark sound = record { made = 0; counted = omega arith; trail = trail_opens trail mark sound }
+run_opens trail mark sound = record { made = 0; counted = omega arith; told = trail_opens trail mark sound }
 
 pub run_same : (p q : ℕ → Content) (mark n : ℕ) (base : Docs) (order : List Entry) → ((k : ℕ) → k ≤ n → q k ≡ p k) → HasRun p mark n base order → HasRun q mark n base order
 run_same p q mark n base order same h = record {

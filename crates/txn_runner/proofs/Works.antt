@@ -15,7 +15,9 @@ use Rattle.store_laws.specs.Soundness.{IsSound}
 use Rattle.store_laws.specs.Steps.{IsQuiet, Applies, Aborts}
 use Rattle.store_laws.proofs.Chained.{step_then}
 use Rattle.store_laws.proofs.Misses.{quiet_itself}
-use Rattle.txn_runner.specs.Causes.{IsMissed, IsOfStore}
+use Rattle.txn_runner.specs.Causes.{AnsweredEdit, IsMissed, IsOfStore}
+use Rattle.store_trait.specs.Calls.{Edits}
+use Rattle.store_trait.specs.declared.edit.Edited.{Edited}
 use Rattle.txn_runner.specs.Settling.{WorksOn, KeepsOthers, DecidesOnly, IsWorth, ComesToStage, MayStop}
 use Rattle.txn_runner.specs.declared.error.StepError.{StepError}
 use Rattle.txn_runner.specs.declared.error.StepError.TheVariants as step
@@ -94,6 +96,15 @@ store_refuses store old id at change new step.NoncesSpent h = elim h [ ]
 store_refuses store old id at change new (step.RevnoSpent key) h = elim h [ ]
 store_refuses store old id at change new (step.Lost z) h = elim h [ ]
 store_refuses store old id at change new (step.Clash who where_) h = elim h [ ]
+
+-- what an edit was answered, with its hit or miss
+pub answered_hit : {S : Type 0} (store : Ghosts S) (old : S) (name : Name) (edit : Edit) (done : Edited) (new : S) {hit : Bool} → done.hit ≡ hit → store.calls new ≡ store.calls old + 1
+    → store.answered old (Edits name edit (Ok done)) new → AnsweredEdit store old name edit hit new
+answered_hit store old name edit done new is counted answer = record {
+  found = done.cell;
+  counted = counted;
+  answer = subst (λ (b : Bool). store.answered old (Edits name edit (Ok (record { hit = b; cell = done.cell }))) new) is answer;
+}
 
 module _ {S : Type 0} (store : Ghosts S) where
   pub works_none : (s : S) (id : TxnId) (order : List Entry) → IsSound (store.content s) → WorksOn store s s order order id

@@ -9,48 +9,48 @@ use Rattle.txn_play.proofs.settling.settle_all.Goals as goal
 
 pub loop-txn-init : goal.loop-txn-init
 loop-txn-init g c = record {
-  told = λ told. rw c.new-states.ensures.items (settling_begins g.S.Store _ _ _ (c.requires.begun told));
+  told = λ told. rw c.new-states.ensures (settling_begins g.S.Store _ _ _ (c.requires.begun told));
   made = search rules;
   built = c.requires.built;
 }
 
 pub settle-requires : goal.settle-requires
-settle-requires g c = record { built = (and_parts _ _ (rw (at_item _ _ _ c.txn-item.is c.loop-txn-test.true) at c.loop-txn.invariant.built)).0; worth = λ told. begins_worth _ _ _ (subst (λ (l : List Waiting). IsSettling g.S.Store c.args.store.now c.loop-txn.store c.args.order.now.items c.loop-txn.order.items c.args.batch.now l c.loop-txn.states.items) (at_item _ _ _ c.txn-item.is c.loop-txn-test.true) (c.loop-txn.invariant.told told)).begun }
+settle-requires g c = record { built = (and_parts _ _ (rw (at_item _ _ _ c.txn-item.is c.loop-txn-test.true) at c.loop-txn.invariant.built)).0; worth = λ told. begins_worth _ _ _ (subst (λ (l : List Waiting). IsSettling g.S.Store c.args.store.now c.loop-txn.store c.args.order.now.items c.loop-txn.order.items c.args.batch.now l c.loop-txn.states) (at_item _ _ _ c.txn-item.is c.loop-txn-test.true) (c.loop-txn.invariant.told told)).begun }
 
 pub returns-in_err-push-in-Ok-clause-works : goal.returns-in_err-push-in-Ok-clause-works
 returns-in_err-push-in-Ok-clause-works g c = λ told.
-    let h = subst (λ (l : List Waiting). IsSettling g.S.Store c.args.store.now c.loop-txn.store c.args.order.now.items c.loop-txn.order.items c.args.batch.now l c.loop-txn.states.items) (at_item _ _ _ c.txn-item.is c.loop-txn-test.true) (c.loop-txn.invariant.told told) in
+    let h = subst (λ (l : List Waiting). IsSettling g.S.Store c.args.store.now c.loop-txn.store c.args.order.now.items c.loop-txn.order.items c.args.batch.now l c.loop-txn.states) (at_item _ _ _ c.txn-item.is c.loop-txn-test.true) (c.loop-txn.invariant.told told) in
     batch_works _ _ _ _ _ _ _ _ _ h.within.0 h.works (c.settle.ensures.works told)
 
 pub returns-in-Err-clause-works : goal.returns-in-Err-clause-works
 returns-in-Err-clause-works g c = λ told.
-    let h = subst (λ (l : List Waiting). IsSettling g.S.Store c.args.store.now c.loop-txn.store c.args.order.now.items c.loop-txn.order.items c.args.batch.now l c.loop-txn.states.items) (at_item _ _ _ c.txn-item.is c.loop-txn-test.true) (c.loop-txn.invariant.told told) in
+    let h = subst (λ (l : List Waiting). IsSettling g.S.Store c.args.store.now c.loop-txn.store c.args.order.now.items c.loop-txn.order.items c.args.batch.now l c.loop-txn.states) (at_item _ _ _ c.txn-item.is c.loop-txn-test.true) (c.loop-txn.invariant.told told) in
     batch_works _ _ _ _ _ _ _ _ _ h.within.0 h.works (c.settle.ensures.works told)
 
 pub loop-txn-preserved : goal.loop-txn-preserved
 loop-txn-preserved g c = record {
   told = λ told.
-      let h = subst (λ (l : List Waiting). IsSettling g.S.Store c.args.store.now c.loop-txn.store c.args.order.now.items c.loop-txn.order.items c.args.batch.now l c.loop-txn.states.items) (at_item _ _ _ c.txn-item.is c.loop-txn-test.true) (c.loop-txn.invariant.told told) in
+      let h = subst (λ (l : List Waiting). IsSettling g.S.Store c.args.store.now c.loop-txn.store c.args.order.now.items c.loop-txn.order.items c.args.batch.now l c.loop-txn.states) (at_item _ _ _ c.txn-item.is c.loop-txn-test.true) (c.loop-txn.invariant.told told) in
       settling_next _ _ _ _ _ _ _ _ _ _ _ _ c.in-Ok.outcome h (c.settle.ensures.works told) (c.settle.ensures.uses told) (c.in-Ok.ensures.settled told) c.in_ok-push-in-Ok.ensures;
   made = calls_then _ _ _ _ c.loop-txn.invariant.made c.settle.ensures.calls;
   built = (and_parts _ _ (rw (at_item _ _ _ c.txn-item.is c.loop-txn-test.true) at c.loop-txn.invariant.built)).1;
 }
 
 pub returns-clause-done : goal.returns-clause-done
-returns-clause-done g c = λ told. settling_ends _ _ _ _ _ _ _ (subst (λ (l : List Waiting). IsSettling g.S.Store c.args.store.now c.loop-txn.store c.args.order.now.items c.loop-txn.order.items c.args.batch.now l c.loop-txn.states.items) (none_left _ _ c.loop-txn-test.false) (c.loop-txn.invariant.told told))
+returns-clause-done g c = λ told. settling_ends _ _ _ _ _ _ _ (subst (λ (l : List Waiting). IsSettling g.S.Store c.args.store.now c.loop-txn.store c.args.order.now.items c.loop-txn.order.items c.args.batch.now l c.loop-txn.states) (none_left _ _ c.loop-txn-test.false) (c.loop-txn.invariant.told told))
 
 pub returns-in_err-push-in-Ok-clause-uses : goal.returns-in_err-push-in-Ok-clause-uses
 returns-in_err-push-in-Ok-clause-uses g c = λ told.
-    let h = subst (λ (l : List Waiting). IsSettling g.S.Store c.args.store.now c.loop-txn.store c.args.order.now.items c.loop-txn.order.items c.args.batch.now l c.loop-txn.states.items) (at_item _ _ _ c.txn-item.is c.loop-txn-test.true) (c.loop-txn.invariant.told told) in
+    let h = subst (λ (l : List Waiting). IsSettling g.S.Store c.args.store.now c.loop-txn.store c.args.order.now.items c.loop-txn.order.items c.args.batch.now l c.loop-txn.states) (at_item _ _ _ c.txn-item.is c.loop-txn-test.true) (c.loop-txn.invariant.told told) in
     uses_up_to_here _ h.uses (c.settle.ensures.uses told)
 
 pub returns-in-Err-clause-uses : goal.returns-in-Err-clause-uses
 returns-in-Err-clause-uses g c = λ told.
-    let h = subst (λ (l : List Waiting). IsSettling g.S.Store c.args.store.now c.loop-txn.store c.args.order.now.items c.loop-txn.order.items c.args.batch.now l c.loop-txn.states.items) (at_item _ _ _ c.txn-item.is c.loop-txn-test.true) (c.loop-txn.invariant.told told) in
+    let h = subst (λ (l : List Waiting). IsSettling g.S.Store c.args.store.now c.loop-txn.store c.args.order.now.items c.loop-txn.order.items c.args.batch.now l c.loop-txn.states) (at_item _ _ _ c.txn-item.is c.loop-txn-test.true) (c.loop-txn.invariant.told told) in
     uses_up_to_here _ h.uses (c.settle.ensures.uses told)
 
 pub returns-clause-uses : goal.returns-clause-uses
-returns-clause-uses g c = λ told. (subst (λ (l : List Waiting). IsSettling g.S.Store c.args.store.now c.loop-txn.store c.args.order.now.items c.loop-txn.order.items c.args.batch.now l c.loop-txn.states.items) (none_left _ _ c.loop-txn-test.false) (c.loop-txn.invariant.told told)).uses
+returns-clause-uses g c = λ told. (subst (λ (l : List Waiting). IsSettling g.S.Store c.args.store.now c.loop-txn.store c.args.order.now.items c.loop-txn.order.items c.args.batch.now l c.loop-txn.states) (none_left _ _ c.loop-txn-test.false) (c.loop-txn.invariant.told told)).uses
 
 pub returns-in-Err-clause-cause : goal.returns-in-Err-clause-cause
 returns-in-Err-clause-cause g c = caused_before _ _ _ _ _ c.loop-txn.invariant.made.counted (rw c.refusal_of.ensures.exact (caused_step _ _ _ _ _ c.in-Err.ensures.cause))

@@ -19,24 +19,24 @@ returns-in_err-drawn-clause-works g c = λ told order.
 
 pub returns-in_err-nonce-clause-works : goal.returns-in_err-nonce-clause-works
 returns-in_err-nonce-clause-works g c = λ told order.
-    works_edited _ _ _ _ _ told (g.met.S.Store.present _ told) c.edit.ensures.call _ _ (c.in_ok-drawn.ensures.made told) (draw_quietly _ _ (c.requires.worth told)) (nonce_others _ _ edit.DrawNonce) order
+    works_edited _ _ _ _ _ told (g.met.S.Store.present _ told) c.edit.ensures.call _ _ (c.in_ok-drawn.ensures.made told).made (draw_quietly _ _ (c.requires.worth told)) (nonce_others _ _ edit.DrawNonce) order
 
 pub returns-in_err-nonce-clause-comes : goal.returns-in_err-nonce-clause-comes
 returns-in_err-nonce-clause-comes g c = λ told.
     let p = err_from_is_err_and c.from_residual-in_err-nonce.result c.from_residual-in_err-nonce.ensures.1 in
-    let made = c.in_ok-drawn.ensures.made told in
+    let made = (c.in_ok-drawn.ensures.made told).made in
     rw (p.1, p.2) (comes_err _ _ _ (subst (λ (x : Content). MayStop x c.in_err-nonce.field-0.0) (sym made)
-    (draw_err _ _ (c.requires.worth told) c.in_ok-drawn.drawn.hit c.in_ok-drawn.drawn.cell _ (c.in_ok-drawn.ensures.hit told) (subst (λ (x : Content). c.in_ok-drawn.drawn.cell ≡ get x name.Nonce) made (c.in_ok-drawn.ensures.after told)) (sym (rw c.counter_in.ensures at c.in_err-nonce.ensures)))))
+    (draw_err _ _ (c.requires.worth told) c.in_ok-drawn.drawn.hit c.in_ok-drawn.drawn.cell _ (c.in_ok-drawn.ensures.made told).hit (subst (λ (x : Content). c.in_ok-drawn.drawn.cell ≡ get x name.Nonce) made (c.in_ok-drawn.ensures.made told).cell) (sym (rw c.counter_in.ensures at c.in_err-nonce.ensures)))))
 
 pub returns-clause-works : goal.returns-clause-works
 returns-clause-works g c = λ told order.
-    works_edited _ _ _ _ _ told (g.met.S.Store.present _ told) c.edit.ensures.call _ _ (c.in_ok-drawn.ensures.made told) (draw_quietly _ _ (c.requires.worth told)) (nonce_others _ _ edit.DrawNonce) order
+    works_edited _ _ _ _ _ told (g.met.S.Store.present _ told) c.edit.ensures.call _ _ (c.in_ok-drawn.ensures.made told).made (draw_quietly _ _ (c.requires.worth told)) (nonce_others _ _ edit.DrawNonce) order
 
 pub returns-clause-comes : goal.returns-clause-comes
 returns-clause-comes g c = λ told.
-    let made = c.in_ok-drawn.ensures.made told in
+    let made = (c.in_ok-drawn.ensures.made told).made in
     comes_edited _ _ _ _ made
-    (draw_ok _ _ (c.requires.worth told) c.in_ok-drawn.drawn.hit c.in_ok-drawn.drawn.cell _ (c.in_ok-drawn.ensures.hit told) (subst (λ (x : Content). c.in_ok-drawn.drawn.cell ≡ get x name.Nonce) made (c.in_ok-drawn.ensures.after told)) (sym (rw c.counter_in.ensures at c.in_ok-nonce.ensures)))
+    (draw_ok _ _ (c.requires.worth told) c.in_ok-drawn.drawn.hit c.in_ok-drawn.drawn.cell _ (c.in_ok-drawn.ensures.made told).hit (subst (λ (x : Content). c.in_ok-drawn.drawn.cell ≡ get x name.Nonce) made (c.in_ok-drawn.ensures.made told).cell) (sym (rw c.counter_in.ensures at c.in_ok-nonce.ensures)))
 
 pub returns-in_err-drawn-clause-uses : goal.returns-in_err-drawn-clause-uses
 returns-in_err-drawn-clause-uses g c =
@@ -46,10 +46,10 @@ returns-in_err-drawn-clause-uses g c =
 pub returns-in_err-nonce-clause-uses : goal.returns-in_err-nonce-clause-uses
 returns-in_err-nonce-clause-uses g c =
     let p = err_from_is_err_and c.from_residual-in_err-nonce.result c.from_residual-in_err-nonce.ensures.1 in
-    λ told. rw (p.1) (uses_within (uses_made (c.in_ok-drawn.ensures.made told) (uses_draw _)) (omega arith) (omega arith))
+    λ told. rw (p.1) (uses_within (uses_made (c.in_ok-drawn.ensures.made told).made (uses_draw _)) (omega arith) (omega arith))
 
 pub returns-clause-uses : goal.returns-clause-uses
-returns-clause-uses g c = λ told. uses_within (uses_made (c.in_ok-drawn.ensures.made told) (uses_draw _)) (omega arith) (omega arith)
+returns-clause-uses g c = λ told. uses_within (uses_made (c.in_ok-drawn.ensures.made told).made (uses_draw _)) (omega arith) (omega arith)
 
 pub returns-in_err-nonce-clause-stays : goal.returns-in_err-nonce-clause-stays
-returns-in_err-nonce-clause-stays g c = λ told. let p = err_from_is_err_and c.from_residual-in_err-nonce.result c.from_residual-in_err-nonce.ensures.1 in rw p.1 (drawn_record _ _ _ (c.in_ok-drawn.ensures.made told))
+returns-in_err-nonce-clause-stays g c = λ told. let p = err_from_is_err_and c.from_residual-in_err-nonce.result c.from_residual-in_err-nonce.ensures.1 in rw p.1 (drawn_record _ _ _ (c.in_ok-drawn.ensures.made told).made)

@@ -1,6 +1,8 @@
-use Rattle.std.proofs.Common.{Some, sym, ap, ◌∙◌}
+use Rattle.std.proofs.Common.{◌≡◌, true, Some, refl, sym, ap, ◌∙◌, subst}
 use Rattle.std.specs.FinMap.{get}
 use Rattle.store_trait.specs.Edits.{hit}
+use Rattle.store_trait.specs.Names.{may_stand}
+use Rattle.store_trait.specs.declared.cell.Cell.{Cell}
 use Rattle.store_memory.specs.Told.{Told, content_of}
 use Rattle.store_memory.proofs.Keeping.{told_of, in_order, kept_put, put_found}
 use Rattle.store_memory.proofs.memory.MemoryStore.put.Goals as goal
@@ -14,9 +16,13 @@ invariant_of-self-2 c =
     let hits = ap (λ (t : Told). hit c.args.edit.now c.args.name.now (get (content_of t) c.args.name.now)) c.self.view_is ∙ c.requires.hits in
     kept_put it.cells.items c.write.new.cells.items it.log.items c.write.new.log.items it.fails.items it.calls it.faults c.args.name.now c.args.edit.now c.args.after c.self.invariant c.requires.kind hits c.in_ok-cell.ensures.cells c.in_ok-cell.ensures.log
 
-pub returns-clause-after : goal.returns-clause-after
-returns-clause-after c =
+pub returns-clause-done : goal.returns-clause-done
+returns-clause-done c =
     let it = c.self.inside in
     let hits = ap (λ (t : Told). hit c.args.edit.now c.args.name.now (get (content_of t) c.args.name.now)) c.self.view_is ∙ c.requires.hits in
     let kept = kept_put it.cells.items c.write.new.cells.items it.log.items c.write.new.log.items it.fails.items it.calls it.faults c.args.name.now c.args.edit.now c.args.after c.self.invariant c.requires.kind hits c.in_ok-cell.ensures.cells c.in_ok-cell.ensures.log in
-    ap Some c.in_ok-cell.ensures.answer ∙ sym (put_found it.cells.items c.write.new.cells.items (told_of c.write.new.log.items it.fails.items it.calls it.faults) c.args.name.now c.args.after kept c.in_ok-cell.ensures.cells)
+    record {
+      hit_is = refl;
+      cell = ap Some c.in_ok-cell.ensures.answer ∙ sym (put_found it.cells.items c.write.new.cells.items (told_of c.write.new.log.items it.fails.items it.calls it.faults) c.args.name.now c.args.after kept c.in_ok-cell.ensures.cells);
+      kind = subst (λ (cell : Cell). may_stand c.args.name.now cell ≡ true) (sym c.in_ok-cell.ensures.answer) c.requires.kind;
+    }

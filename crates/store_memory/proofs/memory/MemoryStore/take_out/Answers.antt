@@ -1,4 +1,4 @@
-use Rattle.std.proofs.Common.{sym, ap, ◌∙◌}
+use Rattle.std.proofs.Common.{refl, sym, ap, ◌∙◌}
 use Rattle.std.specs.FinMap.{get}
 use Rattle.store_trait.specs.Edits.{hit}
 use Rattle.store_memory.specs.Told.{Told, content_of}
@@ -14,9 +14,13 @@ invariant_of-self-2 c =
     let hits = ap (λ (t : Told). hit c.args.edit.now c.args.name.now (get (content_of t) c.args.name.now)) c.self.view_is ∙ c.requires.hits in
     kept_out it.cells.items c.erase.new.cells.items it.log.items c.erase.new.log.items it.fails.items it.calls it.faults c.args.name.now c.args.edit.now c.self.invariant hits c.in_ok-erase.ensures.cells c.in_ok-erase.ensures.log
 
-pub returns-clause-after : goal.returns-clause-after
-returns-clause-after c =
+pub returns-clause-done : goal.returns-clause-done
+returns-clause-done c =
     let it = c.self.inside in
     let hits = ap (λ (t : Told). hit c.args.edit.now c.args.name.now (get (content_of t) c.args.name.now)) c.self.view_is ∙ c.requires.hits in
     let kept = kept_out it.cells.items c.erase.new.cells.items it.log.items c.erase.new.log.items it.fails.items it.calls it.faults c.args.name.now c.args.edit.now c.self.invariant hits c.in_ok-erase.ensures.cells c.in_ok-erase.ensures.log in
-    sym (out_found it.cells.items c.erase.new.cells.items (told_of c.erase.new.log.items it.fails.items it.calls it.faults) c.args.name.now kept c.in_ok-erase.ensures.cells)
+    record {
+      hit_is = refl;
+      cell = sym (out_found it.cells.items c.erase.new.cells.items (told_of c.erase.new.log.items it.fails.items it.calls it.faults) c.args.name.now kept c.in_ok-erase.ensures.cells);
+      kind = tt;
+    }

@@ -1,17 +1,14 @@
-use Rattle.store_memory.proofs.CallLaws.{reads_call, reads_same, call_counted, call_spent}
+use Rattle.store_memory.proofs.CallLaws.{reads_extend, reads_same, counts_on}
 use Rattle.store_memory.proofs.store.MemoryStoreStore.read.Goals as goal
 
 pub returns-clause-same : goal.returns-clause-same
 returns-clause-same c = reads_same _ _ c.find.result c.find.ensures.call
 
-pub returns-clause-call : goal.returns-clause-call
-returns-clause-call c = reads_call _ _ c.find.result c.find.ensures.call
+pub returns-clause-answered : goal.returns-clause-answered
+returns-clause-answered c = (c.find.ensures.found, c.find.ensures.call)
 
-pub returns-clause-failed : goal.returns-clause-failed
-returns-clause-failed c = c.find.ensures.call.fails
+pub returns-clause-trail : goal.returns-clause-trail
+returns-clause-trail c = reads_extend _ _ c.find.result c.find.ensures.call
 
 pub returns-clause-counted : goal.returns-clause-counted
-returns-clause-counted c = call_counted _ _ _ c.find.result c.find.ensures.call
-
-pub returns-clause-spent : goal.returns-clause-spent
-returns-clause-spent c = call_spent _ _ _ c.find.result c.find.ensures.call
+returns-clause-counted c = counts_on _ _ _ c.find.result c.find.ensures.call

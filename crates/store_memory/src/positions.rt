@@ -4,7 +4,7 @@ ghost use Rattle.std.specs.Ordering.{eq_by_cmp};
 ghost use Rattle.std.specs.FinMap.Entries.{find as value_of, put, is_sorted, where_key};
 ghost use Rattle.store_trait.specs.Names.{name_cmp};
 ghost use Rattle.store_trait.specs.Contents.{is_past, named};
-ghost use Rattle.store_memory.specs.Places.{GoesAt, StandsAt};
+ghost use Rattle.store_memory.specs.Positions.{GoesAt, StandsAt};
 
 use crate::slot::Slot;
 use doc_value::OutOfMemory;
@@ -15,10 +15,10 @@ use store_trait::{Cell, Name, Named};
 /// Where a name stands among cells in the order of names, or else where it would go.
 fn seek(cells: &[Slot], name: &Name) -> Result<usize, usize>
     requires { IsTrue (is_sorted name_cmp cells.now) }
-    ensures stands { IfOk result (λ place. StandsAt name_cmp name.now place cells.now) }
-    ensures goes { IfErr result (λ place. GoesAt name_cmp name.now place cells.now) }
-    ensures within { IfOk result (λ place. place < length cells.now) }
-    ensures at_most { IfErr result (λ place. place ≤ length cells.now) }
+    ensures stands { IfOk result (λ position. StandsAt name_cmp name.now position cells.now) }
+    ensures goes { IfErr result (λ position. GoesAt name_cmp name.now position cells.now) }
+    ensures within { IfOk result (λ position. position < length cells.now) }
+    ensures at_most { IfErr result (λ position. position ≤ length cells.now) }
 {
     cells.binary_search_by(|slot| slot.name().compare(name))
 }
@@ -29,7 +29,7 @@ pub(crate) fn look<'a>(cells: &'a [Slot], name: &Name) -> Option<&'a Cell>
     ensures { option_copied result ≡ value_of name_cmp name.now cells.now }
 {
     match seek(cells, name) {
-        Ok(place) => Some(cells[place].cell()),
+        Ok(position) => Some(cells[position].cell()),
         Err(_) => None,
     }
 }
@@ -37,22 +37,24 @@ pub(crate) fn look<'a>(cells: &'a [Slot], name: &Name) -> Option<&'a Cell>
 /// The first cell past a name, or the first of all.
 pub(crate) fn first_past<'a>(cells: &'a [Slot], after: Option<&Name>) -> Option<&'a Slot>
     requires { IsTrue (is_sorted name_cmp cells.now) }
-    ensures { option_copied result ≡ find (λ entry. is_past (option_copied after.entry) entry.0) cells.now }
+    ensures { option_copied result ≡
+        find (λ entry. is_past (option_copied after.entry) entry.0) cells.now }
 {
     match after {
         None => cells.first(),
-        Some(name) => at(cells, place_past(cells, name)),
+        Some(name) => at(cells, position_past(cells, name)),
     }
 }
 
-/// The place of the first cell past a name, or the end.
-fn place_past(cells: &[Slot], name: &Name) -> usize
+/// The position of the first cell past a name, or the end.
+fn position_past(cells: &[Slot], name: &Name) -> usize
     requires { IsTrue (is_sorted name_cmp cells.now) }
-    ensures { slice_get cells.now result ≡ find (λ entry. is_past (Some name.now) entry.0) cells.now }
+    ensures { slice_get cells.now result ≡
+        find (λ entry. is_past (Some name.now) entry.0) cells.now }
 {
     match seek(cells, name) {
-        Ok(place) => place + 1,
-        Err(place) => place,
+        Ok(position) => position + 1,
+        Err(position) => position,
     }
 }
 
@@ -68,10 +70,10 @@ pub(crate) fn put(
     ensures err { OnErr result (cells.new.items ≡ cells.old.items) }
 {
     match seek(cells, name) {
-        Ok(place) => cells[place].put(cell),
-        Err(place) => {
+        Ok(position) => cells[position].put(cell),
+        Err(position) => {
             let slot = Slot::new(alloc, name.copy(alloc)?, cell)?;
-            cells.insert(place, slot)?;
+            cells.insert(position, slot)?;
         }
     }
     Ok(())
@@ -80,10 +82,11 @@ pub(crate) fn put(
 /// Takes out the cell under a name, if there is one.
 pub(crate) fn take_out(cells: &mut Vec<Slot>, name: &Name)
     requires { IsTrue (is_sorted name_cmp cells.old.items) }
-    ensures { cells.new.items ≡ where_key name_cmp (λ other. not (eq_by_cmp name_cmp name.now other)) cells.old.items }
+    ensures { cells.new.items ≡
+        where_key name_cmp (λ other. not (eq_by_cmp name_cmp name.now other)) cells.old.items }
 {
-    if let Ok(place) = seek(cells, name) {
-        let _ = cells.remove(place);
+    if let Ok(position) = seek(cells, name) {
+        let _ = cells.remove(position);
     }
 }
 
@@ -109,8 +112,8 @@ pub(crate) fn copy_past(
     after: Option<&Name>,
 ) -> Result<Option<Named>, OutOfMemory>
     requires { IsTrue (is_sorted name_cmp cells.now) }
-    ensures { IfOk result
-        (λ found. found ≡ option_map named (find (λ entry. is_past (option_copied after.entry) entry.0) cells.now)) }
+    ensures { IfOk result (λ found. found ≡ option_map named
+        (find (λ entry. is_past (option_copied after.entry) entry.0) cells.now)) }
 {
     match first_past(cells, after) {
         Some(slot) => {

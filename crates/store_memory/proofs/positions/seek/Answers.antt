@@ -3,7 +3,7 @@ use Rattle.std.proofs.lemmas.Fn.{always_returns_same}
 use Rattle.store_trait.specs.Names.{name_cmp}
 use Rattle.store_trait.proofs.NameOrder.{name_cmp_total}
 use Rattle.store_memory.proofs.Search.{found_in_order}
-use Rattle.store_memory.proofs.places.seek.Goals as goal
+use Rattle.store_memory.proofs.positions.seek.Goals as goal
 
 pub returns-clause-stands : goal.returns-clause-stands
 returns-clause-stands c =
