@@ -72,3 +72,4 @@ pub mod Late
 pub mod Moments
 pub mod Known
 pub mod Reaching
+pub mod TrailSplits

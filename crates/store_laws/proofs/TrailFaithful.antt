@@ -33,7 +33,7 @@ means_after {old = old} at (Applying rec a) =
 means_after {old = old} at (Aborting rec a) =
     a.means ∙ sym (ap (after (meaning old)) (a.one at) ∙ ap (λ (o : Outcome). outcome_effect o rec.ops (meaning old)) (ap outcome_of a.decides.state))
 
-module _ (trail : ℕ → Content) (mark n : ℕ) (base : Docs) (order : List Entry) (t : IsTrail trail mark n base order) where
+module _ (trail : ℕ → Content) (mark n : ℕ) (base : Docs) (t : IsTrail trail mark n base) where
   pub sound_at : (k : ℕ) → k ≤ n → IsSound (trail (mark + k))
   sound_at zero le = subst (λ (m : ℕ). IsSound (trail m)) (first mark) t.opens
     where
@@ -86,9 +86,8 @@ module _ (trail : ℕ → Content) (mark n : ℕ) (base : Docs) (order : List En
       let same : still.now ≡ new = same_Some still.now new (sym still.there ∙ after_) in
       record { ops = sym (ap (λ (r : Record). r.ops) same) ∙ still.goes.ops; info = sym (ap (λ (r : Record). r.info) same) ∙ still.goes.info }
 
-  pub trail_faithful : IsFaithful trail mark n base order
+  pub trail_faithful : IsFaithful trail mark n base
   trail_faithful = record {
-    order_is = t.order_is;
     sound = sound_at;
     means = means_at;
     kept = λ j k id old new jn kn before after_. ⊎_elim

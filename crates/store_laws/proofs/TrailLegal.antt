@@ -71,7 +71,7 @@ legal_goes old new at base order (Aborting rec a) means all so_far =
     right : is_right (outcome_of state.Aborting) (tests rec.ops (meaning old)) ≡ true
     right = ap (is_right (outcome_of state.Aborting)) a.failed
 
-module _ (trail : ℕ → Content) (mark n : ℕ) (base : Docs) (order : List Entry) (t : IsTrail trail mark n base order) where
+module _ (trail : ℕ → Content) (mark n : ℕ) (base : Docs) (t : IsTrail trail mark n base) where
   all_chosen : (k : ℕ) → k ≤ n → AllChosen (trail (mark + k)) (decisions trail mark k)
   all_chosen zero le = tt
   all_chosen (suc k) le =
@@ -86,7 +86,7 @@ module _ (trail : ℕ → Content) (mark n : ℕ) (base : Docs) (order : List En
   legal_at : (k : ℕ) → k ≤ n → legal base (decisions trail mark k) ≡ true
   legal_at zero le = refl
   legal_at (suc k) le =
-      legal_goes (trail (mark + k)) (trail (mark + k + 1)) (mark + k + 1) base (decisions trail mark k) (t.calls k (omega arith)) (means_at trail mark n base order t k (omega arith)) (all_chosen k (omega arith)) (legal_at k (omega arith))
+      legal_goes (trail (mark + k)) (trail (mark + k + 1)) (mark + k + 1) base (decisions trail mark k) (t.calls k (omega arith)) (means_at trail mark n base t k (omega arith)) (all_chosen k (omega arith)) (legal_at k (omega arith))
 
-  pub trail_legal : legal base order ≡ true
-  trail_legal = ap (legal base) t.order_is ∙ legal_at n (omega arith)
+  pub trail_legal : legal base (decisions trail mark n) ≡ true
+  trail_legal = legal_at n (omega arith)

@@ -132,7 +132,7 @@ decided_kept old new at (Quiet q) = subst (AllByRecursion (IsKept new)) (sym (q.
 decided_kept old new at (Applying rec a) = subst (AllByRecursion (IsKept new)) (sym (a.one at)) (kept_come old new at rec state.Applying refl a.decides, tt)
 decided_kept old new at (Aborting rec a) = subst (AllByRecursion (IsKept new)) (sym (a.one at)) (kept_come old new at rec state.Aborting refl a.decides, tt)
 
-module _ (trail : ℕ → Content) (mark n : ℕ) (base : Docs) (order : List Entry) (t : IsTrail trail mark n base order) where
+module _ (trail : ℕ → Content) (mark n : ℕ) (base : Docs) (t : IsTrail trail mark n base) where
   next_sound : (k : ℕ) → k < n → IsSound (trail (mark + k + 1))
   next_sound k less = (step_of (t.calls k less)).sound
 
@@ -170,23 +170,23 @@ module _ (trail : ℕ → Content) (mark n : ℕ) (base : Docs) (order : List En
       by false e before = inr (recorded_after (decisions trail mark k) (decided_by old new at) now (newly_recorded old new at id now (next_sound k (omega arith)) there_new chose e))
       by true e before =
           let (r, was, chose_r) = chosen_present old id e in
-          let went = goes_on old new (sound_at trail mark n base order t k (omega arith)) (next_sound k (omega arith)) step id r now was there_new in
+          let went = goes_on old new (sound_at trail mark n base t k (omega arith)) (next_sound k (omega arith)) step id r now was there_new in
           ⊎_elim (λ first. inl first) (λ h. inr (recorded_before (decisions trail mark k) (decided_by old new at) now (recorded_later (decisions trail mark k) r now went.0 chose_r went.1 h))) (before r was chose_r)
 
-  pub trail_records : (id : TxnId) (now : Record) → record_at (trail (mark + n)) id ≡ Some now → was_decided_state now.state ≡ true → (was_decided (look (trail mark)) id ≡ true) ⊎ IsRecorded order now
-  trail_records id now there chose = subst (λ (l : List Entry). (was_decided (look (trail mark)) id ≡ true) ⊎ IsRecorded l now) (sym t.order_is) (recorded_at n (omega arith) id now there chose)
+  pub trail_records : (id : TxnId) (now : Record) → record_at (trail (mark + n)) id ≡ Some now → was_decided_state now.state ≡ true → (was_decided (look (trail mark)) id ≡ true) ⊎ IsRecorded (decisions trail mark n) now
+  trail_records = recorded_at n (omega arith)
 
   kept_at : (k : ℕ) → k ≤ n → AllByRecursion (IsKept (trail (mark + k))) (decisions trail mark k)
   kept_at zero le = tt
   kept_at (suc k) le =
       subst (λ (m : ℕ). AllByRecursion (IsKept (trail m)) (decisions trail mark (suc k))) (next mark k)
       (all_append (IsKept (trail (mark + k + 1))) (decisions trail mark k) (decided_by (trail (mark + k)) (trail (mark + k + 1)) (mark + k + 1))
-      (all_kept_on (trail (mark + k)) (trail (mark + k + 1)) (sound_at trail mark n base order t k (omega arith)) (next_sound k (omega arith)) (step_of (t.calls k (omega arith))) (decisions trail mark k) (kept_at k (omega arith)))
+      (all_kept_on (trail (mark + k)) (trail (mark + k + 1)) (sound_at trail mark n base t k (omega arith)) (next_sound k (omega arith)) (step_of (t.calls k (omega arith))) (decisions trail mark k) (kept_at k (omega arith)))
       (decided_kept (trail (mark + k)) (trail (mark + k + 1)) (mark + k + 1) (t.calls k (omega arith))))
     where
       next : (m k : ℕ) → m + k + 1 ≡ m + suc k
       next m k = omega arith
 
   -- each entry tells of a record that is there
-  pub trail_keeps : AllByRecursion (IsKept (trail (mark + n))) order
-  trail_keeps = subst (AllByRecursion (IsKept (trail (mark + n)))) (sym t.order_is) (kept_at n (omega arith))
+  pub trail_keeps : AllByRecursion (IsKept (trail (mark + n))) (decisions trail mark n)
+  trail_keeps = kept_at n (omega arith)

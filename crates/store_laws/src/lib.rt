@@ -27,7 +27,7 @@ pub use documents::{bodies_as_they_lie, meaning_at_rest};
 pub use edits::{edits_are_local, edits_hit, edits_leave};
 pub use forward::{readiness_lasts, ready_records_share_no_key, steps_follow};
 pub use gathering::{findings_last, gathering_the_ready, gatherings_last, scanning_own_keys};
-pub use histories::{growing_a_trail, reading_an_order, trusting_a_trail};
+pub use histories::{dividing_a_trail, growing_a_trail, reading_an_order, trusting_a_trail};
 pub use holding::owning_a_key;
 pub use knowing::{marked_cells_last, passing_lasts, queueing_lasts, records_last};
 pub use plain::staying_plain;
