@@ -12,7 +12,7 @@ use Rattle.txn_script.specs.Statements.{line_in}
 use Rattle.txn_play.specs.Progress.{Progress, has_no_cell}
 use Rattle.txn_play.specs.Sessions.{Stands, at}
 use Rattle.txn_play.specs.declared.answer.Answer.{Answer}
-use Rattle.txn_play.specs.declared.answer.Answer.TheVariants as answer
+use Rattle.txn_play.specs.declared.answer.Answer.TheVariants.{}
 use Rattle.txn_play.specs.declared.session.Session.{Session}
 use Rattle.txn_cli.specs.Call.{start}
 use Rattle.txn_cli.specs.Line.{Between, HasDone, HasDoneLine, HasRunFirst, RunsFirst, up_to}

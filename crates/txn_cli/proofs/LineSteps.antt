@@ -14,7 +14,7 @@ use Rattle.txn_play.specs.Leaving.{Stays}
 use Rattle.txn_play.specs.Progress.{Progress, Does, is_allowed, lets_run, runs_batch}
 use Rattle.txn_play.specs.Sessions.{at, holding}
 use Rattle.txn_play.specs.declared.answer.Answer.{Answer}
-use Rattle.txn_play.specs.declared.answer.Answer.TheVariants as answer
+use Rattle.txn_play.specs.declared.answer.Answer.TheVariants.{Nothing}
 use Rattle.txn_play.specs.declared.refusal.Refusal.{Refusal}
 use Rattle.txn_play.specs.declared.refusal.Refusal.TheVariants as refusal
 use Rattle.txn_play.specs.declared.session.Session.{Session}
@@ -86,12 +86,12 @@ module _ {S : Type 0} (store : Ghosts S) (line : List ℕ) where
   skipped_line old w unwritten read here = record {
     between = record { session = old; written = w.before };
     first = record {
-      ran = record { answer = answer.Nothing; did = subst (λ (r : Result (Option Statement) ScriptFault). RunsFirst (line_lets_run r) (at store old) (at store old) answer.Nothing) (sym read) (refl, refl); writes = λ told. sym (append-nil w.before) };
+      ran = record { answer = Nothing; did = subst (λ (r : Result (Option Statement) ScriptFault). RunsFirst (line_lets_run r) (at store old) (at store old) Nothing) (sym read) (refl, refl); writes = λ told. sym (append-nil w.before) };
       since = omega arith;
       later = omega arith;
       stands = here;
     };
-    done = record { answer = answer.Nothing; did = subst (λ (r : Result (Option Statement) ScriptFault). PlaysAs r (at store old) (at store old) answer.Nothing) (sym read) (refl, refl); writes = λ told. unwritten ∙ sym (append-nil w.before) };
+    done = record { answer = Nothing; did = subst (λ (r : Result (Option Statement) ScriptFault). PlaysAs r (at store old) (at store old) Nothing) (sym read) (refl, refl); writes = λ told. unwritten ∙ sym (append-nil w.before) };
   }
 
   -- a line that is no statement

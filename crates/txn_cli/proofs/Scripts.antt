@@ -9,7 +9,7 @@ use Rattle.txn_runner.specs.declared.waiting.Waiting.{Waiting}
 use Rattle.txn_script.specs.Statements.{line_in}
 use Rattle.txn_play.specs.Progress.{Progress, RunsItself}
 use Rattle.txn_play.specs.declared.answer.Answer.{Answer}
-use Rattle.txn_play.specs.declared.answer.Answer.TheVariants as answer
+use Rattle.txn_play.specs.declared.answer.Answer.TheVariants.{Nothing}
 use Rattle.txn_cli.specs.Line.{RunsFirst, RunsWaiting}
 use Rattle.txn_cli.specs.Output.{answer_text, answers_text}
 use Rattle.txn_cli.specs.Script.{Follows, Plays, PlaysLine, after_lines, line_lets_run, line_may_run, next_lets_run, next_may_run, next_of, taken_by}
@@ -69,11 +69,11 @@ wrote_none tells before now after answers so_far none told = none told ∙ appen
 -- ---- a batch that runs by itself
 
 -- where a batch is let run first, one runs, or nothing changes
-pub first_as : (b : Bool) (p q : Progress) (answer : Answer) → RunsFirst b p q answer → ((q ≡ p) × (answer ≡ answer.Nothing)) ⊎ ((b ≡ true) × RunsItself p q answer)
+pub first_as : (b : Bool) (p q : Progress) (answer : Answer) → RunsFirst b p q answer → ((q ≡ p) × (answer ≡ Nothing)) ⊎ ((b ≡ true) × RunsItself p q answer)
 first_as false p q answer same = inl same
 first_as true p q answer ran = by p.waiting ran
   where
-    by : (waiting : List Waiting) → RunsWaiting waiting p q answer → ((q ≡ p) × (answer ≡ answer.Nothing)) ⊎ ((true ≡ true) × RunsItself p q answer)
+    by : (waiting : List Waiting) → RunsWaiting waiting p q answer → ((q ≡ p) × (answer ≡ Nothing)) ⊎ ((true ≡ true) × RunsItself p q answer)
     by [] same = inl same
     by (txn ∷ waiting) ran = inr (refl, ran)
 

@@ -10,7 +10,7 @@ use Rattle.txn_play.specs.Leaving.{HasLeft, Stays}
 use Rattle.txn_play.specs.Progress.{Progress, Does, RunsItself, runs_batch}
 use Rattle.txn_play.specs.Sessions.{IsCaused, at, holding}
 use Rattle.txn_play.specs.declared.answer.Answer.{Answer}
-use Rattle.txn_play.specs.declared.answer.Answer.TheVariants as answer
+use Rattle.txn_play.specs.declared.answer.Answer.TheVariants.{Nothing}
 use Rattle.txn_play.specs.declared.refusal.Refusal.{Refusal}
 use Rattle.txn_play.specs.declared.refusal.Refusal.TheVariants as refusal
 use Rattle.txn_play.specs.declared.session.Session.{Session}
@@ -28,13 +28,13 @@ pub record Deed : Type 1 where
 
 -- a batch is run by itself, where one waits
 abbrev pub RunsWaiting : List Waiting → Progress → Progress → Answer → Type 0
-RunsWaiting [] p q answer = (q ≡ p) × (answer ≡ answer.Nothing)
+RunsWaiting [] p q answer = (q ≡ p) × (answer ≡ Nothing)
 RunsWaiting (_ ∷ _) p q answer = RunsItself p q answer
 
 -- where it is let run first
 abbrev pub RunsFirst : Bool → Progress → Progress → Answer → Type 0
 RunsFirst true p q answer = RunsWaiting p.waiting p q answer
-RunsFirst false p q answer = (q ≡ p) × (answer ≡ answer.Nothing)
+RunsFirst false p q answer = (q ≡ p) × (answer ≡ Nothing)
 
 -- it was let run first, and was run
 abbrev pub RunsBefore : Bool → Progress → Progress → Answer → Type 0

@@ -11,7 +11,7 @@ use Rattle.txn_record.specs.declared.state.State.{State}
 use Rattle.txn_record.specs.declared.state.State.TheVariants as state
 use Rattle.txn_script.specs.Printing.{document_line, key_text}
 use Rattle.txn_play.specs.declared.answer.Answer.{Answer}
-use Rattle.txn_play.specs.declared.answer.Answer.TheVariants as answer
+use Rattle.txn_play.specs.declared.answer.Answer.TheVariants.{Nothing, States, Documents}
 use Rattle.txn_play.specs.declared.answer.RecordState.{RecordState}
 use Rattle.txn_cli.specs.declared.fault.Fault.{Fault}
 use Rattle.txn_cli.specs.declared.fault.Fault.TheVariants as fault
@@ -40,9 +40,9 @@ abbrev pub state_line : RecordState → List ℕ
 state_line it = line (id_text it.id ++ codes " " ++ state_word it.state)
 
 abbrev pub answer_text : Answer → List ℕ
-answer_text answer.Nothing = []
-answer_text (answer.States states) = flat_map state_line states
-answer_text (answer.Documents docs) = documents_text docs
+answer_text Nothing = []
+answer_text (States states) = flat_map state_line states
+answer_text (Documents docs) = documents_text docs
 
 abbrev pub answers_text : List Answer → List ℕ
 answers_text answers = flat_map answer_text answers

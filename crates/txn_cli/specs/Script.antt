@@ -11,7 +11,7 @@ use Rattle.txn_script.specs.declared.fault.ScriptFault.TheVariants.{NotBuilt}
 use Rattle.txn_script.specs.declared.statement.Statement.{Statement}
 use Rattle.txn_play.specs.Progress.{Progress, Does, RunsItself, is_allowed, lets_run, runs_batch}
 use Rattle.txn_play.specs.declared.answer.Answer.{Answer}
-use Rattle.txn_play.specs.declared.answer.Answer.TheVariants as answer
+use Rattle.txn_play.specs.declared.answer.Answer.TheVariants.{Nothing}
 
 -- what a line states, or the fault by which it is none
 abbrev pub Stated : Type 0
@@ -19,7 +19,7 @@ Stated = Result (Option Statement) ScriptFault
 
 -- a line was done: it was skipped, or its statement was done
 abbrev pub PlaysAs : Stated → Progress → Progress → Answer → Type 0
-PlaysAs (Ok None) p q answer = (q ≡ p) × (answer ≡ answer.Nothing)
+PlaysAs (Ok None) p q answer = (q ≡ p) × (answer ≡ Nothing)
 PlaysAs (Ok (Some s)) p q answer = Does s p q answer
 PlaysAs (Err _) p q answer = ⊥
 

@@ -58,7 +58,7 @@ ran_batch store old now waiting run states may was is mark base turns works uses
   others = works.others.records;
   uses = uses;
   turns = turns;
-  states = done.states;
+  are = done.are;
 }
   where
     stands : (txn : Waiting) → MayBegin (store.content old) txn → HasOutcome (store.content now) txn → StandsIn (store.content now) run.order txn

@@ -243,7 +243,7 @@ module _ {S : Type 0} (store : Ghosts S) where
     begun = b;
     within = all_wait waiting;
     done = λ d step all. all;
-    states = λ d step. refl;
+    are = λ d step. refl;
   }
 
   pub settling_next : (old now next : S) (before order after : List Entry) (waiting : List Waiting) (txn : Waiting) (left : List Waiting) (states more : List RecordState) (o : Outcome)
@@ -264,8 +264,8 @@ module _ {S : Type 0} (store : Ghosts S) where
         };
         within = h.within.1;
         done = λ d step all. h.done d (step_then works.step step) (record { outcome = o; settled = settled_later (store.content next) d txn o step worth.stage }, all);
-        states = λ d step.
-            h.states d (step_then works.step step)
+        are = λ d step.
+            h.are d (step_then works.step step)
             ∙ ap (λ (l : List RecordState). states ++ (l ++ record_states d left)) (ended_states d txn o (settled_later (store.content next) d txn o step worth.stage))
             ∙ sym (append_assoc states (ended_state txn o) (record_states d left))
             ∙ ap (λ (l : List RecordState). l ++ record_states d left) (sym added);
@@ -277,7 +277,7 @@ module _ {S : Type 0} (store : Ghosts S) where
       record {
         calm = h.begun.calm;
         ended = h.done (store.content now) same tt;
-        states = sym (h.states (store.content now) same ∙ append-nil states);
+        are = sym (h.are (store.content now) same ∙ append-nil states);
       }
 
 -- what was used up to a transaction, and what its own calls used

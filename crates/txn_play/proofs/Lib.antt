@@ -5,5 +5,6 @@ pub mod IndexLaws
 pub mod OnlyReading
 pub mod Opening
 pub mod OwnOperations
+pub mod Placing
 pub mod Runs
 pub mod Sessions

@@ -1,5 +1,5 @@
 -- A store with no first cell is empty.
-use Rattle.std.proofs.Common.{◌≡◌, find, List, [], ◌∷◌, length, Option, Some, None, is_none, true, false, refl, sym, ◌∙◌, arith}
+use Rattle.std.proofs.Common.{◌≡◌, find, List, [], ◌∷◌, length, Option, Some, None, Bool, is_none, is_some, not, true, false, refl, sym, ap, ◌∙◌, arith}
 use Rattle.std.specs.FinMap.{empty, entries, len-entries, len-empty, same_entries_map}
 use Rattle.std.specs.Option.{option_map}
 use Rattle.store_trait.specs.Names.{name_cmp}
@@ -24,6 +24,13 @@ none_first (Some entry) e = absurd (cc)
 pub some_first : (o : Option (Name × Cell)) (first : Named) → Some first ≡ option_map named o → false ≡ is_none o
 some_first None first e = absurd (cc)
 some_first (Some entry) first e = refl
+
+-- whether a listing found a first cell
+pub none_found : (none : Bool) (found : Option Named) (first : Option (Name × Cell)) → is_some found ≡ not none → found ≡ option_map named first → none ≡ is_none first
+none_found true found None said e = refl
+none_found false found None said e = absurd (cc)
+none_found true found (Some entry) said e = absurd (cc)
+none_found false found (Some entry) said e = refl
 
 -- a store with no first cell is empty
 no_cells : (es : List (Name × Cell)) → option_map named (find (λ entry. is_past None entry.0) es) ≡ None → es ≡ []

@@ -9,7 +9,8 @@ use Rattle.doc_value.specs.declared.value.Value.{Value}
 use Rattle.txn_key.specs.declared.id.TxnId.{TxnId}
 use Rattle.txn_key.specs.declared.key.Key.{Key}
 use Rattle.txn_record.specs.declared.op.Op.{Op}
-use Rattle.store_trait.specs.Calls.{CallsGoOn}
+use Rattle.store_trait.specs.Stores.{CallsGoOn}
+use Rattle.store_trait.specs.declared.store.Store.{Ghosts}
 use Rattle.store_trait.specs.Cells.{as_record}
 use Rattle.store_trait.specs.Contents.{Content}
 use Rattle.store_trait.specs.Edits.{hit, edited}
@@ -31,7 +32,7 @@ use Rattle.txn_play.specs.Batches.{waits, are_distinct, Every, MayBegin, MayRun}
 use Rattle.txn_runner.specs.Calm.{IsCalm}
 use Rattle.txn_runner.specs.Running.{OnlyReads}
 use Rattle.txn_play.specs.Runs.{RunsGoOn}
-use Rattle.txn_play.specs.Sessions.{IsHeld}
+use Rattle.txn_play.specs.Sessions.{IsBetween, IsKept, Stands}
 use Rattle.txn_runner.specs.Store.{has_document, has_record}
 use Rattle.txn_play.specs.declared.run.Run.{Run}
 use Rattle.txn_play.specs.declared.session.Session.{Session}

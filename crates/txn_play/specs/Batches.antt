@@ -113,7 +113,7 @@ pub record IsBegun (c : Content) (waiting : List Waiting) : Type 0 where
 pub record IsDoneWith (c : Content) (waiting : List Waiting) (states : List RecordState) : Type 0 where
   pub calm : IsCalm c
   pub ended : Every (HasOutcome c) waiting
-  pub states : states ≡ record_states c waiting
+  pub are : states ≡ record_states c waiting
 
 -- ---- the loops, with what is left of the batch
 
@@ -137,7 +137,7 @@ pub record IsSettling {S : Type 0} (store : Ghosts S) (old now : S) (before orde
   pub begun : IsBegun (store.content now) left
   pub within : Every (λ txn. waits waiting txn.id ≡ true) left
   pub done : (d : Content) → IsStep (store.content now) d → Every (HasOutcome d) left → Every (HasOutcome d) waiting
-  pub states : (d : Content) → IsStep (store.content now) d → record_states d waiting ≡ states ++ record_states d left
+  pub are : (d : Content) → IsStep (store.content now) d → record_states d waiting ≡ states ++ record_states d left
 
 -- the two loops, over a store that may tell nothing
 pub record IsSubmittingBatch {S : Type 0} (store : Ghosts S) (old now : S) (waiting left : List Waiting) : Type 0 where

@@ -21,7 +21,7 @@ use Rattle.txn_script.specs.declared.statement.Statement.{Statement}
 use Rattle.txn_script.specs.declared.statement.Statement.TheVariants as statement
 use Rattle.txn_play.specs.Batches.{waits, Every, StandsIn, record_states}
 use Rattle.txn_play.specs.declared.answer.Answer.{Answer}
-use Rattle.txn_play.specs.declared.answer.Answer.TheVariants as answer
+use Rattle.txn_play.specs.declared.answer.Answer.TheVariants.{Nothing, States, Documents}
 use Rattle.txn_play.specs.declared.answer.RecordState.{RecordState}
 use Rattle.txn_play.specs.declared.run.Run.{Run}
 
@@ -91,7 +91,7 @@ pub record RanBatch (old new : Content) (waiting : List Waiting) (run : Run) (st
   pub others : (id : TxnId) → waits waiting id ≡ false → record_at new id ≡ record_at old id
   pub uses : Uses old new (length waiting) (length waiting) 0 0
   pub turns : run.turns ≡ []
-  pub states : states ≡ record_states new waiting
+  pub are : states ≡ record_states new waiting
 
 -- a batch was run, and its Run is kept behind those before it
 pub record HasRunBatch (old new : Content) (waiting : List Waiting) (before after : List Run)
@@ -104,7 +104,7 @@ pub record HasRunBatch (old new : Content) (waiting : List Waiting) (before afte
 pub record RunsBatch (p q : Progress) (answer : Answer) : Type 0 where
   pub states : List RecordState
   pub ran : HasRunBatch p.content q.content p.waiting p.runs q.runs states
-  pub answers : answer ≡ answer.States states
+  pub answers : answer ≡ States states
   pub none_waits : q.waiting ≡ []
   pub begun : q.begun ≡ true
   pub was_empty : q.was_empty ≡ p.was_empty
@@ -114,14 +114,14 @@ pub record RunsBatch (p q : Progress) (answer : Answer) : Type 0 where
 abbrev pub Performs : Statement → Progress → Progress → Answer → Type 0
 Performs (statement.Doc key body) p q answer =
     (q ≡ record p { content = insert p.content (name.Doc key) (placed_doc body); calls = q.calls })
-    × (answer ≡ answer.Nothing)
+    × (answer ≡ Nothing)
 Performs (statement.Submit id ops info) p q answer =
     (q ≡ record p { waiting = p.waiting ++ record { id = id; ops = ops } ∷ []; begun = true; calls = q.calls })
-    × (answer ≡ answer.Nothing)
+    × (answer ≡ Nothing)
 Performs statement.Go p q answer = RunsBatch p q answer
 Performs statement.Show p q answer =
     (p.waiting ≡ []) × (q ≡ record p { begun = true; calls = q.calls })
-    × (answer ≡ answer.Documents (meaning p.content))
+    × (answer ≡ Documents (meaning p.content))
 
 -- a statement that is built was done
 pub record Does (s : Statement) (p q : Progress) (answer : Answer) : Type 0 where

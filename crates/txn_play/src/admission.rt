@@ -4,7 +4,8 @@ ghost use Rattle.std.specs.Prelude.{◌≡◌, true, false, ◌&&◌, not, IsTru
 ghost use Rattle.std.specs.Bool.{OnTrue};
 ghost use Rattle.std.specs.FinMap.{get, insert};
 ghost use Rattle.std.specs.List.{list_all};
-ghost use Rattle.store_trait.specs.Calls.{CallsGoOn, Rose};
+ghost use Rattle.store_trait.specs.Calls.{Rose};
+ghost use Rattle.store_trait.specs.Stores.{CallsGoOn};
 ghost use Rattle.store_trait.specs.declared.name.Name.TheVariants.{Doc};
 ghost use Rattle.txn_play.specs.Progress.{placed_doc, has_no_cell};
 ghost use Rattle.txn_runner.specs.Calm.{IsCalm};

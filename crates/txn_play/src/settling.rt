@@ -1,7 +1,8 @@
 //! How a batch is submitted and settled.
 
 ghost use Rattle.std.specs.Prelude.{◌≡◌, true, List, length, IsTrue, IfOk, IfErr, OnOk, IsErrOf};
-ghost use Rattle.store_trait.specs.Calls.{CallsGoOn, Rose};
+ghost use Rattle.store_trait.specs.Calls.{Rose};
+ghost use Rattle.store_trait.specs.Stores.{CallsGoOn};
 ghost use Rattle.txn_runner.specs.Calm.{IsCalm};
 ghost use Rattle.txn_play.specs.Batches.{MayRun, IsBegun, IsDoneWith, Every, HasOwnOperations, LeavesRecords, WorksOnBatch, are_built};
 ghost use Rattle.txn_runner.specs.Numbers.{Suffices, Uses};
@@ -42,9 +43,9 @@ pub fn run_batch<S: Store>(
         (record { content = S.content store.new; runs = runs.new.items })) }
     ensures reason { IsTrue S.tells → IfErr result (HasReason (S.content store.new)) }
     ensures enough { IsTrue S.tells → Suffices (S.content store.old) (length batch.now) → IfErr result IsUnspent }
-    ensures cause { IfErr result (HasCause S.answered S.calls store.old store.new) }
+    ensures cause { IfErr result (HasCause S.Store store.old store.new) }
     ensures kind { IfErr result IsOfRun }
-    ensures calls { CallsGoOn S.tells S.content S.trail S.calls S.faults store.old store.new }
+    ensures calls { CallsGoOn S.Store store.old store.new }
     ensures fault { IsErrOf result Refusal.Store → Rose (S.faults store.old) (S.faults store.new) }
 {
     runs.reserve(1)?;
@@ -76,15 +77,15 @@ fn run_all<S: Store>(
     requires may_run { IsTrue S.tells → MayRun (S.content store.old) batch.now }
     requires built { are_built batch.now ≡ true }
     ensures works { IsTrue S.tells →
-        WorksOnBatch S.content S.trail S.calls store.old store.new order.old.items order.new.items batch.now }
+        WorksOnBatch S.Store store.old store.new order.old.items order.new.items batch.now }
     ensures done { IsTrue S.tells → IfOk result (λ states. IsDoneWith (S.content store.new) batch.now states) }
     ensures uses { IsTrue S.tells → Uses (S.content store.old) (S.content store.new) (length batch.now) (length batch.now) 0 0 }
     ensures records { IsTrue S.tells → LeavesRecords (S.content store.new) order.old.items order.new.items batch.now }
     ensures unfinished { IsTrue S.tells → IfErr result (LeavesUnfinished (S.content store.new) batch.now) }
     ensures reason { IsTrue S.tells → IfErr result (HasReason (S.content store.new)) }
-    ensures cause { IfErr result (HasCause S.answered S.calls store.old store.new) }
+    ensures cause { IfErr result (HasCause S.Store store.old store.new) }
     ensures kind { IfErr result IsOfRun }
-    ensures calls { CallsGoOn S.tells S.content S.trail S.calls S.faults store.old store.new }
+    ensures calls { CallsGoOn S.Store store.old store.new }
     ensures fault { IsErrOf result Refusal.Store → Rose (S.faults store.old) (S.faults store.new) }
 {
     match submit_all(alloc, store, batch) {
@@ -97,15 +98,15 @@ fn run_all<S: Store>(
 fn submit_all<S: Store>(alloc: Global, store: &mut S, batch: &[Waiting]) -> Result<(), Refusal>
     requires may_run { IsTrue S.tells → MayRun (S.content store.old) batch.now }
     ensures works { IsTrue S.tells → (order : List LogEntry) →
-        WorksOnBatch S.content S.trail S.calls store.old store.new order order batch.now }
+        WorksOnBatch S.Store store.old store.new order order batch.now }
     ensures begun { IsTrue S.tells → OnOk result (IsBegun (S.content store.new) batch.now) }
     ensures uses { IsTrue S.tells → Uses (S.content store.old) (S.content store.new) 0 0 0 0 }
     ensures own { IsTrue S.tells → Every (HasOwnOperations (S.content store.new)) batch.now }
     ensures unfinished { IsTrue S.tells → IfErr result (LeavesUnfinished (S.content store.new) batch.now) }
     ensures reason { IsTrue S.tells → IfErr result (HasReason (S.content store.new)) }
-    ensures cause { IfErr result (HasCause S.answered S.calls store.old store.new) }
+    ensures cause { IfErr result (HasCause S.Store store.old store.new) }
     ensures kind { IfErr result IsOfRun }
-    ensures calls { CallsGoOn S.tells S.content S.trail S.calls S.faults store.old store.new }
+    ensures calls { CallsGoOn S.Store store.old store.new }
     ensures fault { IsErrOf result Refusal.Store → Rose (S.faults store.old) (S.faults store.new) }
 {
     for txn in batch {
@@ -128,14 +129,14 @@ fn settle_all<S: Store>(
     requires begun { IsTrue S.tells → IsBegun (S.content store.old) batch.now }
     requires built { are_built batch.now ≡ true }
     ensures works { IsTrue S.tells →
-        WorksOnBatch S.content S.trail S.calls store.old store.new order.old.items order.new.items batch.now }
+        WorksOnBatch S.Store store.old store.new order.old.items order.new.items batch.now }
     ensures done { IsTrue S.tells → IfOk result (λ states. IsDoneWith (S.content store.new) batch.now states) }
     ensures uses { IsTrue S.tells → Uses (S.content store.old) (S.content store.new) (length batch.now) (length batch.now) 0 0 }
     ensures unfinished { IsTrue S.tells → IfErr result (LeavesUnfinished (S.content store.new) batch.now) }
     ensures reason { IsTrue S.tells → IfErr result (HasReason (S.content store.new)) }
-    ensures cause { IfErr result (HasCause S.answered S.calls store.old store.new) }
+    ensures cause { IfErr result (HasCause S.Store store.old store.new) }
     ensures kind { IfErr result IsOfRun }
-    ensures calls { CallsGoOn S.tells S.content S.trail S.calls S.faults store.old store.new }
+    ensures calls { CallsGoOn S.Store store.old store.new }
     ensures fault { IsErrOf result Refusal.Store → Rose (S.faults store.old) (S.faults store.new) }
 {
     let mut states = Items::new(alloc);

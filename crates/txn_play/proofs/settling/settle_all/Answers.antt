@@ -31,7 +31,7 @@ pub loop-txn-preserved : goal.loop-txn-preserved
 loop-txn-preserved g c = record {
   told = λ told.
       let h = subst (λ (l : List Waiting). IsSettling g.S.Store c.args.store.now c.loop-txn.store c.args.order.now.items c.loop-txn.order.items c.args.batch.now l c.loop-txn.states) (at_item _ _ _ c.txn-item.is c.loop-txn-test.true) (c.loop-txn.invariant.told told) in
-      settling_next _ _ _ _ _ _ _ _ _ _ _ _ c.in-Ok.outcome h (c.settle.ensures.works told) (c.settle.ensures.uses told) (c.in-Ok.ensures.settled told) c.in_ok-push-in-Ok.ensures;
+      settling_next _ _ _ _ _ _ _ _ _ _ _ _ c.in-Ok.outcome h (c.settle.ensures.works told) (c.settle.ensures.uses told) (c.in-Ok.ensures.settled told) (rw c.end_of.ensures at c.in_ok-push-in-Ok.ensures.ok);
   made = calls_then _ _ _ _ c.loop-txn.invariant.made c.settle.ensures.calls;
   built = (and_parts _ _ (rw (at_item _ _ _ c.txn-item.is c.loop-txn-test.true) at c.loop-txn.invariant.built)).1;
 }
