@@ -105,6 +105,9 @@ move_comes c id from to drawn revnos s = by_move c id from to drawn revnos (λ d
 pub doc_nonces : (c : Content) (key : Key) (e : Edit) → NoncesStay (look c) (look (edited c (name.Doc key) e))
 doc_nonces c key e = record { same = λ id. nonces_same c (edited c (name.Doc key) e) id (record_elsewhere c (name.Doc key) e id (λ h. cc h)) }
 
+pub stash_nonces : (c : Content) (key : Key) (e : Edit) → NoncesStay (look c) (look (edited c (name.Stash key) e))
+stash_nonces c key e = record { same = λ id. nonces_same c (edited c (name.Stash key) e) id (record_elsewhere c (name.Stash key) e id (λ h. cc h)) }
+
 pub draw_nonces : (c : Content) (e : Edit) → NoncesStay (look c) (look (edited c name.Nonce e))
 draw_nonces c e = record { same = λ id. nonces_same c (edited c name.Nonce e) id (record_elsewhere c name.Nonce e id (λ h. cc h)) }
 

@@ -42,6 +42,7 @@ pub fn nonces_are_given()
     ensures inserted { (c : Content) (id : TxnId) (rec : Record) → rec.state ≡ state.Preparing →
         NoncesStay (look c) (look (edited c (name.Record id) (edit.InsertRecord rec))) }
     ensures docs { (c : Content) (key : Key) (e : Edit) → NoncesStay (look c) (look (edited c (name.Doc key) e)) }
+    ensures stashes { (c : Content) (key : Key) (e : Edit) → NoncesStay (look c) (look (edited c (name.Stash key) e)) }
     ensures drawn { (c : Content) (e : Edit) → NoncesStay (look c) (look (edited c name.Nonce e)) }
 {}
 
