@@ -1,5 +1,5 @@
-use Rattle.store_laws.proofs.Carries.{carry_ready, carry_clean, carry_spent}
-use Rattle.store_laws.proofs.Orderly.{orderly}
+use Rattle.store_laws.proofs.views.Carries.{carry_ready, carry_clean, carry_spent}
+use Rattle.store_laws.proofs.views.Orderly.{orderly}
 use Rattle.store_laws.proofs.forward.readiness_lasts.Goals as goal
 
 pub returns : goal.returns

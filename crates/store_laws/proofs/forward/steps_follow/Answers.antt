@@ -1,6 +1,6 @@
-use Rattle.store_laws.proofs.Chained.{step_then}
-use Rattle.store_laws.proofs.Moments.{since_step, since_then}
-use Rattle.store_laws.proofs.Misses.{quiet_itself, miss_leaves}
+use Rattle.store_laws.proofs.steps.Chained.{step_then}
+use Rattle.store_laws.proofs.steps.Moments.{since_step, since_then}
+use Rattle.store_laws.proofs.cells.Misses.{quiet_itself, miss_leaves}
 use Rattle.store_laws.proofs.forward.steps_follow.Goals as goal
 
 pub returns : goal.returns

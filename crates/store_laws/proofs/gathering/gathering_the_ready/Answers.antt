@@ -1,4 +1,4 @@
-use Rattle.store_laws.proofs.Graphs.{gathered_ready, gathered_clean, gathered_picked}
+use Rattle.store_laws.proofs.views.Graphs.{gathered_ready, gathered_clean, gathered_picked}
 use Rattle.store_laws.proofs.gathering.gathering_the_ready.Goals as goal
 
 pub returns : goal.returns

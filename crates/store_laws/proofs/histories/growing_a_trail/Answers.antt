@@ -1,4 +1,4 @@
-use Rattle.store_laws.proofs.TrailGrows.{decisions-more, decisions-same, trail_opens, trail_more, trail_same}
+use Rattle.store_laws.proofs.trails.TrailGrows.{decisions-more, decisions-same, trail_opens, trail_more, trail_same}
 use Rattle.store_laws.proofs.histories.growing_a_trail.Goals as goal
 
 pub returns : goal.returns

@@ -1,5 +1,5 @@
 use Rattle.std.proofs.lemmas.List.Elements.{All-from_recursion}
-use Rattle.store_laws.proofs.TrailTells.{trail_records, trail_keeps}
+use Rattle.store_laws.proofs.trails.TrailTells.{trail_records, trail_keeps}
 use Rattle.store_laws.specs.Decisions.{decisions}
 use Rattle.store_laws.specs.Trail.{IsKept}
 use Rattle.store_laws.proofs.histories.reading_an_order.Goals as goal

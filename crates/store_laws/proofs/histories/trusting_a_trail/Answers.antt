@@ -1,6 +1,6 @@
 use Rattle.std.proofs.Common.{arith}
-use Rattle.store_laws.proofs.TrailFaithful.{trail_faithful, means_at, calls_between}
-use Rattle.store_laws.proofs.TrailLegal.{trail_legal}
+use Rattle.store_laws.proofs.trails.TrailFaithful.{trail_faithful, means_at, calls_between}
+use Rattle.store_laws.proofs.trails.TrailLegal.{trail_legal}
 use Rattle.store_laws.proofs.histories.trusting_a_trail.Goals as goal
 
 pub returns : goal.returns

@@ -1,7 +1,7 @@
 use Rattle.std.proofs.Common.{lt_of_lt_of_le}
 use Rattle.store_laws.specs.View.{look, counter}
-use Rattle.store_laws.proofs.CellRules.{tokens_later, below_later}
-use Rattle.store_laws.proofs.Known.{doc_later, entry_later}
+use Rattle.store_laws.proofs.cells.CellRules.{tokens_later, below_later}
+use Rattle.store_laws.proofs.steps.Known.{doc_later, entry_later}
 use Rattle.store_laws.proofs.knowing.marked_cells_last.Goals as goal
 
 pub returns : goal.returns

@@ -1,6 +1,6 @@
 use Rattle.store_laws.specs.View.{look}
-use Rattle.store_laws.proofs.Done.{passed_later, all_passed_later}
-use Rattle.store_laws.proofs.Known.{passed_while_applying, passed_if_applied_later}
+use Rattle.store_laws.proofs.chains.Done.{passed_later, all_passed_later}
+use Rattle.store_laws.proofs.steps.Known.{passed_while_applying, passed_if_applied_later}
 use Rattle.store_laws.proofs.knowing.passing_lasts.Goals as goal
 
 pub returns : goal.returns

@@ -1,6 +1,6 @@
 use Rattle.std.proofs.Common.{lt_of_lt_of_le}
 use Rattle.store_laws.specs.View.{look}
-use Rattle.store_laws.proofs.Known.{queued_later, no_doc_later}
+use Rattle.store_laws.proofs.steps.Known.{queued_later, no_doc_later}
 use Rattle.store_laws.proofs.knowing.queueing_lasts.Goals as goal
 
 pub returns : goal.returns

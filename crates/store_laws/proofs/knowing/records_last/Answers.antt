@@ -1,6 +1,6 @@
 use Rattle.store_laws.specs.View.{look}
-use Rattle.store_laws.proofs.Known.{still_later, was_applying}
-use Rattle.store_laws.proofs.Lost.{still_there}
+use Rattle.store_laws.proofs.steps.Known.{still_later, was_applying}
+use Rattle.store_laws.proofs.views.Lost.{still_there}
 use Rattle.store_laws.proofs.knowing.records_last.Goals as goal
 
 pub returns : goal.returns

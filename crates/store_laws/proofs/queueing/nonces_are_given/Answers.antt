@@ -1,4 +1,4 @@
-use Rattle.store_laws.proofs.Nonces.{move_comes, insert_nonces, doc_nonces, stash_nonces, draw_nonces}
+use Rattle.store_laws.proofs.steps.Nonces.{move_comes, insert_nonces, doc_nonces, stash_nonces, draw_nonces}
 use Rattle.store_laws.proofs.queueing.nonces_are_given.Goals as goal
 
 pub returns : goal.returns

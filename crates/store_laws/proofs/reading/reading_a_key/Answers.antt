@@ -1,5 +1,5 @@
-use Rattle.store_laws.proofs.Known.{listed_as_shown}
-use Rattle.store_laws.proofs.Moments.{one_moment, shown_queue, shown_held}
+use Rattle.store_laws.proofs.steps.Known.{listed_as_shown}
+use Rattle.store_laws.proofs.steps.Moments.{one_moment, shown_queue, shown_held}
 use Rattle.store_laws.proofs.reading.reading_a_key.Goals as goal
 
 pub returns : goal.returns

@@ -1,6 +1,6 @@
 use Rattle.std.proofs.Common.{inl}
-use Rattle.store_laws.proofs.Applying.{passed_if_past}
-use Rattle.store_laws.proofs.Passing.{one_passed}
+use Rattle.store_laws.proofs.chains.Applying.{passed_if_past}
+use Rattle.store_laws.proofs.chains.Passing.{one_passed}
 use Rattle.store_laws.proofs.settling.passing_an_operation.Goals as goal
 
 pub returns : goal.returns

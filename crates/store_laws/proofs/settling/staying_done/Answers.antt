@@ -1,4 +1,4 @@
-use Rattle.store_laws.proofs.Passing.{applying_on}
+use Rattle.store_laws.proofs.chains.Passing.{applying_on}
 use Rattle.store_laws.proofs.settling.staying_done.Goals as goal
 
 pub returns : goal.returns

@@ -1,5 +1,5 @@
-use Rattle.store_laws.proofs.Reaching.{reached_in_turn}
-use Rattle.store_laws.proofs.UpdateEdits.{update_quiet, update_passes}
+use Rattle.store_laws.proofs.chains.Reaching.{reached_in_turn}
+use Rattle.store_laws.proofs.steps.UpdateEdits.{update_quiet, update_passes}
 use Rattle.store_laws.proofs.settling.updating_a_document.Goals as goal
 
 pub returns : goal.returns

@@ -1,4 +1,4 @@
-use Rattle.store_laws.proofs.Late.{late_quiet, late_alone}
+use Rattle.store_laws.proofs.steps.Late.{late_quiet, late_alone}
 use Rattle.store_laws.proofs.settling.updating_too_late.Goals as goal
 
 pub returns : goal.returns
