@@ -1,5 +1,5 @@
 -- Cells that stay, be they owners or not.
-use Rattle.std.proofs.Common.{◌≡◌, ℕ, ℤ, pos, negsuc, ◌≤◌, ◌<◌, if◌then◌else◌, le_of_eq, le_trans, lt_of_lt_of_le, Bool, true, false, not, Option, Some, None, inl, inr, ⊎_elim, sym, ap, ◌∙◌, refl, subst, unsigned_abs, arith, true≢false}
+use Rattle.std.proofs.Common.{◌≡◌, ℕ, ℤ, pos, negsuc, ◌≤◌, ◌<◌, if◌then◌else◌, le_of_eq, le_trans, lt_of_lt_of_le, true, not, Option, Some, None, inl, inr, ⊎_elim, sym, ap, ◌∙◌, refl, subst, unsigned_abs, arith}
 use Rattle.std.proofs.lemmas.Bool.{and_parts}
 use Rattle.std.proofs.lemmas.Bool.Decides.{nat_tests}
 use Rattle.std.proofs.lemmas.Option.{same_Some}
@@ -15,7 +15,7 @@ use Rattle.store_trait.specs.declared.cell.Cell.TheVariants as cell
 use Rattle.store_trait.specs.declared.cell.DocCell.{DocCell}
 use Rattle.store_trait.specs.declared.cell.StashCell.{StashCell}
 use Rattle.store_trait.specs.declared.name.Name.TheVariants as name
-use Rattle.store_laws.specs.Entries.{entry_epoch, stash_epoch, DocStays, EntryStays, CellsStay}
+use Rattle.store_laws.specs.Entries.{entry_epoch, stash_epoch, DocStays, CellsStay}
 use Rattle.store_laws.specs.Soundness.{IsSound}
 use Rattle.store_laws.specs.View.{doc_at, stash_at}
 use Rattle.store_laws.proofs.views.Equals.{by_key}

@@ -1,5 +1,5 @@
 -- Marks and stash entries, where a cell is put.
-use Rattle.std.proofs.Common.{◌≡◌, ◌≢◌, ℕ, ℤ, List, Bool, true, false, not, Option, Some, None, inl, inr, ⊎_elim, sym, ap, ◌∙◌, refl, subst, if◌then◌else◌, negsuc}
+use Rattle.std.proofs.Common.{◌≡◌, ◌≢◌, ℕ, ℤ, List, Bool, true, false, not, Option, Some, None, sym, ap, ◌∙◌, refl, subst, if◌then◌else◌, negsuc}
 use Rattle.std.proofs.lemmas.Bool.{and_parts}
 use Rattle.std.proofs.lemmas.Option.{same_Some}
 use Rattle.std.specs.FinMap.{insert}
@@ -28,7 +28,7 @@ use Rattle.store_laws.proofs.cells.Lookups
 use Rattle.store_laws.proofs.cells.Looks.{put, record_looks, doc_records, doc_held_elsewhere}
 use Rattle.store_laws.proofs.views.Moves.{each_record}
 use Rattle.store_laws.proofs.cells.Owning.{owned_held, stash_below}
-use Rattle.store_laws.proofs.cells.Parts.{HasMarks, HasMarksAt, Parts, parts}
+use Rattle.store_laws.proofs.cells.Parts.{HasMarks, HasMarksAt, parts}
 use Rattle.store_laws.proofs.views.Shapes.{ChangesRecord, Counts}
 use Rattle.store_laws.proofs.cells.Under.{doc_under}
 

@@ -1,10 +1,9 @@
 -- The owner of a key with no stash entry.
-use Rattle.std.proofs.Common.{◌≡◌, Option, Some, None, [], ap, ap₂, sym, ◌∙◌, refl, unsigned_abs}
+use Rattle.std.proofs.Common.{◌≡◌, Some, None, [], ap₂}
 use Rattle.txn_key.specs.declared.key.Key.{Key}
 use Rattle.store_trait.specs.Contents.{Content}
-use Rattle.store_laws.specs.View.{Body, look, doc_at, stash_at, owner_queue, owner_held, held_number, epoch_at}
+use Rattle.store_laws.specs.View.{Body, look, doc_at, stash_at, owner_queue, owner_held}
 use Rattle.store_trait.specs.declared.cell.DocCell.{DocCell}
-use Rattle.store_trait.specs.declared.cell.StashCell.{StashCell}
 
 pub doc_queue_alone : (c : Content) (key : Key) (doc : DocCell) → doc_at c key ≡ Some doc → stash_at c key ≡ None → (look c).queue_at key ≡ doc.queue
 unfolding look

@@ -2,18 +2,13 @@
 use Rattle.std.proofs.Common.{◌≡◌, ℕ, ℤ, pos, negsuc, ◌+ℤ◌, ◌<◌, ◌≤◌, Bool, true, false, cond, not, Option, Some, None, is_some, [], sym, ap, ◌∙◌, refl, unsigned_abs, nat_lt, arith, true≢false}
 use Rattle.std.proofs.lemmas.Bool.{and_parts}
 use Rattle.std.proofs.lemmas.Bool.Decides.{nat_tests}
-use Rattle.std.proofs.lemmas.Option.{same_Some}
-use Rattle.std.specs.Prelude.{option_and_then}
-use Rattle.std.specs.FinMap.{get}
 use Rattle.txn_key.specs.declared.key.Key.{Key}
 use Rattle.txn_record.specs.Revnos.{is_present, is_within}
-use Rattle.store_trait.specs.Cells.{as_doc, as_stash}
 use Rattle.store_trait.specs.Contents.{Content}
 use Rattle.store_trait.specs.Owners.{owner_of, epoch}
 use Rattle.store_laws.specs.Entries.{entry_epoch}
 use Rattle.store_laws.specs.Soundness.{IsSound}
 use Rattle.store_laws.specs.View.{Body, Number, look, doc_at, stash_at, owner_held, owner_queue, by_side, doc_held, doc_queue, stash_held, stash_queue, held_number}
-use Rattle.store_trait.specs.declared.cell.Cell.{Cell}
 use Rattle.store_trait.specs.declared.cell.Cell.TheVariants as cell
 use Rattle.store_trait.specs.declared.cell.DocCell.{DocCell}
 use Rattle.store_trait.specs.declared.cell.StashCell.{StashCell}

@@ -24,7 +24,7 @@ use Rattle.store_laws.proofs.cells.Looks.{record_looks}
 use Rattle.store_laws.proofs.cells.CellRules.{HasSoundCells, sound_cells, cells_put_record}
 use Rattle.store_laws.proofs.cells.Marks.{MarksApart, marks_put_record}
 use Rattle.store_laws.proofs.meanings.Meanings.{pending_of-same, bodies-same}
-use Rattle.store_laws.proofs.cells.Parts.{Parts, parts, HasMarksAt}
+use Rattle.store_laws.proofs.cells.Parts.{parts, HasMarksAt}
 
 -- the rules on what an applying record finds and has still to do
 pub record HasSoundChains (c : Content) : Type 0 where

@@ -1,5 +1,5 @@
 -- An applying record and one of its operations, at its number.
-use Rattle.std.proofs.Common.{◌≡◌, ◌<◌, ◌≤◌, ◌+◌, true, false, ◌&&◌, Bool, Option, Some, List, ◌⊎◌, inl, inr, ⊎_elim, sym, ap, ◌∙◌, refl, subst, unsigned_abs, unwrap_or, option_map, ℕ, ℤ, arith}
+use Rattle.std.proofs.Common.{◌≡◌, ◌<◌, ◌+◌, true, false, ◌&&◌, Bool, Option, List, ◌⊎◌, inl, inr, ⊎_elim, sym, ap, ◌∙◌, refl, subst, unsigned_abs, unwrap_or, option_map, ℕ, ℤ, arith}
 use Rattle.std.proofs.lemmas.Bool.{and_parts}
 use Rattle.std.proofs.lemmas.Option.{same_Some}
 use Rattle.std.specs.Prelude.{[]}
@@ -14,7 +14,7 @@ use Rattle.txn_record.specs.declared.state.State.TheVariants as state
 use Rattle.store_trait.specs.Names.{same_state}
 use Rattle.store_trait.specs.Contents.{Content}
 use Rattle.store_laws.specs.Chains.{IsAt, AppliesAt}
-use Rattle.store_laws.specs.Done.{HasCome, HasPassed}
+use Rattle.store_laws.specs.Done.{HasPassed}
 use Rattle.store_laws.specs.Soundness.{IsSound, IsMarkOf}
 use Rattle.store_laws.specs.View.{look, record_at, applying, HasKey, IsOn, held_number, epoch_at}
 use Rattle.store_laws.proofs.chains.ChainOrder.{same_on_chain}

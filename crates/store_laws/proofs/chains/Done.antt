@@ -1,5 +1,5 @@
 -- What has been done stays done, edit by edit.
-use Rattle.std.proofs.Common.{◌≡◌, ℕ, ℤ, ◌<◌, ◌+◌, lt_trans, Bool, true, false, Some, List, [], ◌∷◌, inl, inr, sym, ap, ◌∙◌, refl, subst, unsigned_abs, arith}
+use Rattle.std.proofs.Common.{◌≡◌, ℤ, ◌<◌, lt_trans, true, Some, List, [], ◌∷◌, inl, inr, sym, ap, ◌∙◌, refl, subst, unsigned_abs, arith}
 use Rattle.std.proofs.lemmas.Option.{same_Some}
 use Rattle.std.specs.FinMap.{insert}
 use Rattle.txn_key.specs.declared.id.TxnId.{TxnId}

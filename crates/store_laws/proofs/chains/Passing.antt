@@ -1,29 +1,15 @@
 -- What has passed: other steps keep it.
-use Rattle.std.proofs.Common.{◌≡◌, ℕ, ℤ, ◌<◌, lt_irrefl, true, false, Option, Some, List, [], ◌∷◌, ◌⊎◌, inl, inr, ⊎_elim, sym, ap, ◌∙◌, refl, subst, unsigned_abs, true≢false}
+use Rattle.std.proofs.Common.{◌≡◌, ℤ, true, Some, List, [], ◌∷◌, ◌⊎◌, inl, inr, ⊎_elim, sym, ◌∙◌, subst}
 use Rattle.std.proofs.lemmas.Option.{same_Some}
-use Rattle.std.proofs.lemmas.Bool.{and_parts}
-use Rattle.std.specs.FinMap.{get}
-use Rattle.doc_value.specs.declared.value.Value.{Value}
-use Rattle.txn_key.specs.declared.id.Token.{Token}
 use Rattle.txn_key.specs.declared.id.TxnId.{TxnId}
-use Rattle.txn_record.specs.Revnos.{is_present, is_within, has_effect}
-use Rattle.txn_record.specs.declared.op.Change.{Change}
-use Rattle.txn_record.specs.declared.op.Change.TheVariants.{Update}
 use Rattle.txn_record.specs.declared.op.Op.{Op}
 use Rattle.txn_record.specs.declared.record.Record.{Record}
-use Rattle.txn_record.specs.declared.state.State.{State}
 use Rattle.txn_record.specs.declared.state.State.TheVariants as state
 use Rattle.store_trait.specs.Contents.{Content}
 use Rattle.store_laws.specs.Done.{HasPassed, AllPassed}
-use Rattle.store_trait.specs.Edits.{edited}
 use Rattle.store_laws.specs.Later.{may_follow}
-use Rattle.store_laws.specs.Soundness.{IsSound}
 use Rattle.store_laws.specs.Steps.{IsStep}
 use Rattle.store_laws.specs.View.{View, look, record_at}
-use Rattle.store_trait.specs.declared.cell.Cell.TheVariants as cell
-use Rattle.store_trait.specs.declared.cell.DocCell.{DocCell}
-use Rattle.store_trait.specs.declared.edit.Edit.TheVariants as edit
-use Rattle.store_trait.specs.declared.name.Name.TheVariants as name
 use Rattle.store_laws.proofs.steps.Chained.{applying_goes}
 use Rattle.store_laws.proofs.chains.Done.{all_passed_later}
 

@@ -1,5 +1,5 @@
 -- Steps follow one another.
-use Rattle.std.proofs.Common.{◌≡◌, ℤ, true, List, ◌⊎◌, inl, inr, ⊎_elim, refl, subst}
+use Rattle.std.proofs.Common.{◌≡◌, true, List, ◌⊎◌, inl, inr, ⊎_elim, refl, subst}
 use Rattle.txn_record.specs.declared.op.Op.{Op}
 use Rattle.txn_record.specs.declared.state.State.{State}
 use Rattle.txn_record.specs.declared.state.State.TheVariants as state

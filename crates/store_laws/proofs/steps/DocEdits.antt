@@ -1,5 +1,5 @@
 -- Nonces drawn and tokens added: nothing is decided, and nobody waits for less.
-use Rattle.std.proofs.Common.{le_of_eq, negsuc, option_to_list, ◌≡◌, ◌≢◌, ℕ, ◌≤◌, ◌<◌, ◌+◌, nat_lt, Bool, true, false, cond, Option, Some, None, List, [], ◌++◌, inl, ⊎_elim, sym, ap, ◌∙◌, refl, subst, arith}
+use Rattle.std.proofs.Common.{negsuc, option_to_list, ◌≡◌, ◌≢◌, ℕ, ◌≤◌, ◌<◌, ◌+◌, nat_lt, Bool, true, false, cond, Option, Some, None, [], ◌++◌, inl, ⊎_elim, sym, ap, ◌∙◌, refl, subst, arith}
 use Rattle.std.specs.Option.{option_and_then, unwrap_or}
 use Rattle.std.specs.FinMap.{get, insert}
 use Rattle.txn_key.specs.declared.id.Token.{Token}

@@ -24,7 +24,7 @@ use Rattle.store_laws.specs.Entries.{entry_epoch, stash_epoch, DocStays, EntrySt
 use Rattle.store_laws.specs.Found.{IsListed}
 use Rattle.store_laws.specs.Known.{HasQueued, HasNoDocAlone, PassedIfApplied}
 use Rattle.store_laws.specs.Later.{GoesTo, IsStillThere, may_follow}
-use Rattle.store_laws.specs.Readiness.{token, In, Before, StandsAt, IsSpent}
+use Rattle.store_laws.specs.Readiness.{token, In, Before, IsSpent}
 use Rattle.store_laws.specs.Since.{IsOwnedAs}
 use Rattle.store_laws.specs.Soundness.{IsSound}
 use Rattle.store_laws.specs.Steps.{IsStep}
@@ -32,7 +32,7 @@ use Rattle.store_laws.specs.View.{View, look, record_at, doc_at, stash_at, was_p
 use Rattle.store_laws.proofs.steps.Chained.{applying_goes}
 use Rattle.store_laws.proofs.chains.Done.{all_passed_later}
 use Rattle.store_laws.proofs.cells.Entries.{none_counts}
-use Rattle.store_laws.proofs.views.Lost.{still_there, goes_then}
+use Rattle.store_laws.proofs.views.Lost.{goes_then}
 use Rattle.store_laws.proofs.steps.Moments.{shown_queue}
 use Rattle.store_laws.proofs.views.Views.{decided_if_chosen, chosen_if_settled}
 

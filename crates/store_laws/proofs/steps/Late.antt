@@ -1,5 +1,5 @@
 -- An update that comes late: its operation has passed.
-use Rattle.std.proofs.Common.{◌≡◌, ℕ, ℤ, pos, negsuc, ◌+ℤ◌, ◌<◌, lt_irrefl, Bool, true, false, cond, ◌&&◌, Option, Some, None, inl, inr, sym, ap, ap₂, ◌∙◌, refl, subst, unsigned_abs, int_lt, int_eq, true≢false}
+use Rattle.std.proofs.Common.{◌≡◌, ℤ, pos, negsuc, ◌+ℤ◌, ◌<◌, lt_irrefl, Bool, true, false, cond, ◌&&◌, Option, Some, None, inl, inr, sym, ap, ap₂, ◌∙◌, refl, subst, unsigned_abs, int_lt, int_eq, true≢false}
 use Rattle.std.proofs.lemmas.Bool.{and_parts}
 use Rattle.std.proofs.lemmas.Bool.Decides.{Decides-int_eq}
 use Rattle.std.specs.Prelude.{option_and_then, option_map}
@@ -8,7 +8,7 @@ use Rattle.doc_value.specs.declared.value.Value.{Value}
 use Rattle.doc_update.specs.Updates.{updated}
 use Rattle.txn_key.specs.declared.id.Token.{Token}
 use Rattle.txn_key.specs.declared.key.Key.{Key}
-use Rattle.txn_record.specs.Revnos.{is_present, is_within, has_effect, number_after}
+use Rattle.txn_record.specs.Revnos.{is_present, is_within, number_after}
 use Rattle.txn_record.specs.declared.op.Change.TheVariants.{Update}
 use Rattle.txn_record.specs.declared.op.Op.{Op}
 use Rattle.store_trait.specs.Cells.{as_doc}

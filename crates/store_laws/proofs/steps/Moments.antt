@@ -1,9 +1,6 @@
 -- Chains of calls, and the moment that two reads of a key show.
-use Rattle.std.proofs.Common.{◌≡◌, ℕ, ◌≤◌, ◌<◌, ◌+◌, le_refl, le_trans, Bool, true, false, cond, Option, Some, None, zero, suc, inl, inr, ⊎_elim, sym, ap, ap₂, ◌∙◌, refl, subst, nat_lt, arith, negsuc, [], List}
-use Rattle.txn_key.specs.Documents.{Docs}
-use Rattle.txn_key.specs.declared.id.Token.{Token}
+use Rattle.std.proofs.Common.{◌≡◌, ℕ, ◌≤◌, le_trans, Bool, true, false, cond, Option, Some, None, inl, inr, sym, ap, ap₂, ◌∙◌, refl, subst, nat_lt, negsuc, []}
 use Rattle.txn_key.specs.declared.key.Key.{Key}
-use Rattle.txn_record.specs.declared.entry.Entry.{Entry}
 use Rattle.store_trait.specs.Contents.{Content}
 use Rattle.store_trait.specs.Owners.{owner_of, epoch}
 use Rattle.store_trait.specs.declared.cell.DocCell.{DocCell}
@@ -14,8 +11,8 @@ use Rattle.store_laws.specs.Entries.{entry_epoch, stash_epoch, StaysOrOwns}
 use Rattle.store_laws.specs.Since.{Link, Since, IsOwnedAs, IsMoment}
 use Rattle.store_laws.specs.Soundness.{IsSound}
 use Rattle.store_laws.specs.Steps.{IsStep}
-use Rattle.store_laws.specs.Trail.{IsCall, IsTrail}
-use Rattle.store_laws.specs.View.{Held, Number, look, doc_at, stash_at, owner_queue, owner_held, by_side, doc_queue, stash_queue, doc_held, stash_held}
+use Rattle.store_laws.specs.Trail.{IsCall}
+use Rattle.store_laws.specs.View.{Number, look, doc_at, stash_at, owner_queue, owner_held, by_side, doc_queue, stash_queue, doc_held, stash_held}
 use Rattle.store_laws.proofs.steps.Chained.{step_then}
 use Rattle.store_laws.proofs.cells.Entries.{none_counts}
 use Rattle.store_laws.proofs.cells.Misses.{quiet_itself}

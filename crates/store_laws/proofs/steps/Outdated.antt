@@ -1,5 +1,5 @@
 -- An update of a document that doesn't own its key: nobody sees it.
-use Rattle.std.proofs.Common.{◌≡◌, ◌≢◌, ℕ, ℤ, pos, negsuc, ◌+◌, ◌+ℤ◌, ◌<◌, lt_trans, lt_irrefl, Bool, true, false, not, ◌&&◌, Option, Some, [], sym, ap, ap₂, ◌∙◌, refl, subst, unsigned_abs, arith, true≢false}
+use Rattle.std.proofs.Common.{◌≡◌, ℕ, ℤ, pos, negsuc, ◌+◌, ◌+ℤ◌, ◌<◌, lt_trans, lt_irrefl, true, not, ◌&&◌, Some, [], sym, ap, ap₂, ◌∙◌, subst, unsigned_abs, arith, true≢false}
 use Rattle.std.proofs.lemmas.Bool.{and_parts}
 use Rattle.std.proofs.lemmas.Bool.Decides.{nat_tests}
 use Rattle.std.proofs.lemmas.Option.{same_Some}

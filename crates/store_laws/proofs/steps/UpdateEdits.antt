@@ -1,24 +1,21 @@
 -- The edit of an applying record's update: quiet, and after it nothing is left to do.
-use Rattle.std.proofs.Common.{◌≡◌, ◌≤◌, le_refl, le_of_eq, le_antisymm, nat_lt, if◌then◌else◌, ℕ, ℤ, pos, negsuc, ◌+ℤ◌, ◌<◌, Bool, true, false, cond, ◌&&◌, ◌||◌, ⊎_elim, arith, Option, Some, None, is_some, List, [], ◌∷◌, ◌⊎◌, inl, inr, sym, ap, ap₂, ◌∙◌, refl, subst, unsigned_abs, int_lt, int_eq, true≢false}
-use Rattle.std.proofs.lemmas.Bool.{and_parts}
+use Rattle.std.proofs.Common.{◌≡◌, ◌≤◌, if◌then◌else◌, ℕ, ℤ, pos, negsuc, ◌+ℤ◌, ◌<◌, Bool, true, false, cond, ◌&&◌, ◌||◌, ⊎_elim, arith, Option, Some, None, is_some, List, [], ◌∷◌, ◌⊎◌, inl, inr, sym, ap, ap₂, ◌∙◌, refl, subst, unsigned_abs, int_lt, true≢false}
 use Rattle.std.proofs.lemmas.Bool.Decides.{Decides-int_eq, Decides-eqb, nat_tests}
 use Rattle.std.proofs.lemmas.Slice.Eq.{bytes_eq-Decides}
 use Rattle.std.specs.List.{list_any}
-use Rattle.std.specs.Prelude.{option_and_then, option_map}
+use Rattle.std.specs.Prelude.{option_map}
 use Rattle.std.specs.FinMap.{get}
 use Rattle.doc_value.specs.declared.value.Value.{Value}
 use Rattle.txn_key.specs.Keys.{same_key}
-use Rattle.txn_record.specs.Revnos.{is_within, is_present, is_on_chain, has_effect, number_after, follows}
+use Rattle.txn_record.specs.Revnos.{is_within, is_present, has_effect}
 use Rattle.doc_update.specs.Updates.{updated}
 use Rattle.txn_key.specs.declared.id.TxnId.{TxnId}
 use Rattle.txn_key.specs.declared.id.Token.{Token}
-use Rattle.txn_key.specs.declared.key.Key.{Key}
 use Rattle.txn_record.specs.Effects.{changes_fit, change_fits}
 use Rattle.txn_record.specs.declared.op.Change.{Change}
 use Rattle.txn_record.specs.declared.op.Op.{Op}
 use Rattle.txn_record.specs.declared.state.State.TheVariants as state
 use Rattle.txn_record.specs.declared.record.Record.{Record}
-use Rattle.store_trait.specs.Cells.{as_doc}
 use Rattle.store_trait.specs.Contents.{Content}
 use Rattle.store_trait.specs.Edits.{same_token, hit_update, put_under, edited, is_updatable, with_body, has_token}
 use Rattle.store_laws.specs.Soundness.{IsSound}
@@ -28,7 +25,6 @@ use Rattle.store_laws.specs.View.{View, Held, Number, look, doc_at, stash_at, ow
 use Rattle.store_trait.specs.Names.{same_state}
 use Rattle.store_laws.specs.Meaning.{bodies, pending_of, not_done}
 use Rattle.store_trait.specs.declared.cell.Cell.{Cell}
-use Rattle.store_trait.specs.declared.cell.Cell.TheVariants as cell
 use Rattle.store_trait.specs.declared.cell.DocCell.{DocCell}
 use Rattle.store_trait.specs.declared.cell.StashCell.{StashCell}
 use Rattle.store_trait.specs.declared.side.Side.{Side}
@@ -42,7 +38,7 @@ use Rattle.store_laws.proofs.chains.ChainOrder.{same_on_chain}
 use Rattle.store_laws.proofs.chains.Applying
 use Rattle.store_laws.proofs.chains.Done.{passed_later}
 use Rattle.store_laws.proofs.steps.Late.{by_update, late_quiet}
-use Rattle.store_laws.proofs.chains.NumberAfter.{after_above, update_acts, update_leads}
+use Rattle.store_laws.proofs.chains.NumberAfter.{update_acts, update_leads}
 use Rattle.store_laws.proofs.meanings.Fitting.{fits_now}
 use Rattle.store_laws.proofs.meanings.Idle.{pending_of-applying}
 use Rattle.store_laws.proofs.chains.Inherits.{at_on, at_found}

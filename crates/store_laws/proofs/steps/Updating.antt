@@ -1,9 +1,9 @@
 -- An applying record's update of its document: the meaning stays, and nothing is left to do there.
-use Rattle.std.proofs.Common.{◌≡◌, ◌≢◌, ℕ, ℤ, pos, ◌+ℤ◌, ◌<◌, ◌≤◌, le_of_lt, lt_irrefl, lt_of_le_of_lt, inl, inr, Bool, true, false, ◌&&◌, Option, Some, IsTrue, unwrap_or, List, [], ◌∷◌, sym, ap, ◌∙◌, refl, subst, unsigned_abs, true≢false, if◌then◌else◌}
+use Rattle.std.proofs.Common.{◌≡◌, ◌≢◌, ℕ, ℤ, pos, ◌+ℤ◌, ◌<◌, le_of_lt, lt_irrefl, lt_of_le_of_lt, inl, inr, Bool, true, false, ◌&&◌, Option, Some, IsTrue, unwrap_or, List, [], ◌∷◌, sym, ap, ◌∙◌, refl, subst, unsigned_abs, true≢false, if◌then◌else◌}
 use Rattle.std.proofs.lemmas.Bool.{and_parts}
 use Rattle.std.proofs.lemmas.Option.{same_Some}
 use Rattle.std.specs.Cmp.{Equal-is}
-use Rattle.std.specs.Prelude.{option_and_then, option_map}
+use Rattle.std.specs.Prelude.{option_and_then}
 use Rattle.std.specs.FinMap.{get}
 use Rattle.std.specs.Ordering.{is_eq}
 use Rattle.doc_value.specs.declared.value.Value.{Value}
@@ -12,7 +12,7 @@ use Rattle.std.proofs.lemmas.Cmp.{tied_itself}
 use Rattle.txn_key.specs.Ids.{id_cmp}
 use Rattle.txn_key.specs.Keys.{same_key}
 use Rattle.txn_record.specs.Effects.{changes_fit, body_after, effect_of}
-use Rattle.txn_record.specs.Revnos.{is_present, is_within, has_effect, number_after, is_on_chain, stays_within, follows}
+use Rattle.txn_record.specs.Revnos.{is_present, is_within, has_effect, number_after, is_on_chain, follows}
 use Rattle.doc_update.specs.Updates.{updated}
 use Rattle.txn_key.specs.declared.id.TxnId.{TxnId}
 use Rattle.txn_key.specs.declared.id.Token.{Token}

@@ -14,8 +14,6 @@ use Rattle.store_laws.specs.Meaning.{meaning}
 use Rattle.store_laws.specs.Soundness.{IsSound}
 use Rattle.store_laws.specs.Steps.{IsStep}
 use Rattle.store_laws.specs.View.{look, record_at}
-use Rattle.store_laws.proofs.steps.Chained.{step_then}
-use Rattle.store_laws.proofs.cells.Misses.{quiet_itself}
 use Rattle.store_laws.proofs.steps.Moments.{since_step}
 use Rattle.store_laws.proofs.trails.TrailGrows.{step_of}
 use Rattle.store_laws.specs.Since.{Link, Since}

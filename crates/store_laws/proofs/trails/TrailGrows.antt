@@ -1,5 +1,5 @@
 -- How a trail of calls grows.
-use Rattle.std.proofs.Common.{◌≡◌, ℕ, zero, suc, ◌+◌, ◌<◌, ◌≤◌, List, [], ◌++◌, ◌⊎◌, ⊎_elim, sym, ap, ◌∙◌, refl, subst, arith}
+use Rattle.std.proofs.Common.{◌≡◌, ℕ, zero, suc, ◌+◌, ◌<◌, ◌≤◌, ◌++◌, ◌⊎◌, ⊎_elim, sym, ap, ◌∙◌, refl, subst, arith}
 use Rattle.txn_key.specs.Documents.{Docs}
 use Rattle.store_trait.specs.Contents.{Content}
 use Rattle.store_laws.specs.Decisions.{decided_by, decisions}

@@ -1,12 +1,10 @@
 -- A trail and the trails that it consists of.
-use Rattle.std.proofs.Common.{◌≡◌, ℕ, zero, suc, ◌+◌, ◌-◌, ◌<◌, ◌≤◌, List, [], ◌++◌, ◌⊎◌, ⊎_elim, append-nil, sym, ap, ◌∙◌, refl, subst, arith}
+use Rattle.std.proofs.Common.{◌≡◌, ℕ, zero, suc, ◌+◌, ◌-◌, ◌<◌, ◌≤◌, ◌++◌, ◌⊎◌, ⊎_elim, append-nil, sym, ap, ◌∙◌, subst, arith}
 use Rattle.std.proofs.lemmas.List.{append_assoc}
 use Rattle.txn_key.specs.Documents.{Docs}
 use Rattle.txn_record.specs.Orders.{after}
-use Rattle.txn_record.specs.declared.entry.Entry.{Entry}
 use Rattle.store_trait.specs.Contents.{Content}
 use Rattle.store_laws.specs.Decisions.{decided_by, decisions}
-use Rattle.store_laws.specs.Meaning.{meaning}
 use Rattle.store_laws.specs.Trail.{IsCall, IsTrail}
 use Rattle.store_laws.proofs.trails.TrailFaithful.{sound_at, means_at}
 

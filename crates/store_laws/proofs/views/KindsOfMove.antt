@@ -9,7 +9,7 @@ use Rattle.txn_record.specs.declared.state.State.{State}
 use Rattle.txn_record.specs.declared.state.State.TheVariants as state
 use Rattle.store_trait.specs.Names.{same_state}
 use Rattle.store_trait.specs.Edits.{moved}
-use Rattle.store_laws.specs.View.{View, is_queued_state, IsOn, was_decided}
+use Rattle.store_laws.specs.View.{View, is_queued_state, IsOn}
 use Rattle.store_laws.specs.Readiness.{token, In, IsReady}
 use Rattle.store_laws.proofs.views.Shapes.{ChangesRecord}
 use Rattle.store_laws.proofs.views.Views.{chosen_at}

@@ -1,8 +1,5 @@
 -- The part of soundness that speaks of owner queues, precedence and readiness.
-use Rattle.std.proofs.Common.{◌≡◌, ℕ, Bool, true, false, ◌&&◌, not, IsTrue, Option, Some, None, is_some, List, [], ◌⊎◌, inl, inr, ⊎_elim, option_to_list, refl, ap}
-use Rattle.std.specs.FinMap.{get}
-use Rattle.std.specs.Option.{option_and_then}
-use Rattle.std.proofs.lemmas.Option.{same_Some}
+use Rattle.std.proofs.Common.{◌≡◌, ℕ, Bool, true, false, ◌&&◌, not, IsTrue, Option, Some, None, is_some, List, [], ◌⊎◌, inl, inr, ⊎_elim, option_to_list, refl}
 use Rattle.txn_key.specs.declared.id.TxnId.{TxnId}
 use Rattle.txn_key.specs.declared.id.Token.{Token}
 use Rattle.txn_key.specs.declared.key.Key.{Key}
@@ -12,12 +9,10 @@ use Rattle.txn_record.specs.declared.state.State.{State}
 use Rattle.txn_record.specs.declared.state.State.TheVariants as state
 use Rattle.store_trait.specs.Names.{same_state}
 use Rattle.store_trait.specs.Contents.{Content}
-use Rattle.store_trait.specs.Cells.{as_record}
 use Rattle.store_trait.specs.Owners.{owner_of}
-use Rattle.store_laws.specs.View.{View, look, record_at, doc_at, stash_at, was_decided, applying, is_queued_state, HasKey, IsOn, by_side, doc_queue, stash_queue}
+use Rattle.store_laws.specs.View.{View, look, doc_at, stash_at, was_decided, applying, is_queued_state, HasKey, IsOn, by_side, doc_queue, stash_queue}
 use Rattle.store_laws.specs.Readiness.{token, In, IsReady, Sealed}
 use Rattle.store_laws.specs.Soundness.{IsSound, HasSoundTokens, is_numbered_record, agree, tokens_of_doc, tokens_of_stash}
-use Rattle.store_trait.specs.declared.cell.Cell.{Cell}
 use Rattle.store_trait.specs.declared.cell.Cell.TheVariants as cell
 use Rattle.store_trait.specs.declared.cell.DocCell.{DocCell}
 use Rattle.store_trait.specs.declared.cell.StashCell.{StashCell}
