@@ -68,6 +68,7 @@ pub record HasSoundTokens (view : View) (key : Key) (queue tokens : List Token) 
   pub named : (x : Token) → In x tokens → HasKey view x.id key
   pub once : (x : Token) → Before x x queue → ⊥
 
+-- the tokens of a cell under its key
 abbrev pub HasTokens : View → Name → Cell → Type 0
 HasTokens view (name.Doc key) (cell.Doc doc) =
     HasSoundTokens view key doc.queue (tokens_of_doc doc)
@@ -104,6 +105,7 @@ pub record StandsOnChain (view : View) (rec : Record) : Type 0 where
 abbrev pub PendingFits : Content → Record → Type 0
 PendingFits c rec = changes_fit (pending_of (look c) rec) (bodies c) ≡ true
 
+-- of an applying record
 abbrev pub IfApplying : Content → (Record → Type 0) → TxnId → Type 0
 IfApplying c P id =
     (rec : Record) → record_at c id ≡ Some rec → IsTrue (same_state state.Applying rec.state)
@@ -158,9 +160,11 @@ HasSoundEntry c _ = Unit {0}
 
 -- The rules by name.
 
+-- of the cell under a name, where there is one
 abbrev pub AtCell : Content → (Cell → Type 0) → Name → Type 0
 AtCell c P n = (x : Cell) → get c n ≡ Some x → P x
 
+-- of a record's name; nothing is asked at other names
 abbrev pub AtRecord : (TxnId → Type 0) → Name → Type 0
 AtRecord P (name.Record id) = P id
 AtRecord P _ = Unit {0}
