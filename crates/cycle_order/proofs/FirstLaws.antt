@@ -1,9 +1,8 @@
 -- Laws of going first, over any relation.
 use Rattle.std.proofs.Common.{◌≢◌, ◌⊎◌, sym}
-use Rattle.txn_record.specs.Walks.{Leads}
+use Rattle.txn_record.specs.Walks.{Leads, GoesFirst}
 use Rattle.txn_record.proofs.WalkLaws.{leads_map}
 use Rattle.cycle_order.proofs.MoreWalks.{leads_without}
-use Rattle.cycle_order.specs.Readiness.{GoesFirst}
 
 module _ {A : Type 0} {E : A → A → Type 0} {Unsettled : A → Type 0} {Below : A → A → Type 0} where
   -- of two unsettled vertices, each an ancestor of the other, one at most goes first

@@ -1,8 +1,7 @@
 -- Among finitely many unsettled vertices, whatever the edges, it can't be that none goes first.
 use Rattle.std.proofs.Common.{◌≡◌, ◌≢◌, ◌⊎◌, inl, inr, List, [], ◌∷◌, sym, subst, ◌∙◌}
-use Rattle.txn_record.specs.Walks.{Leads}
+use Rattle.txn_record.specs.Walks.{Leads, GoesFirst}
 use Rattle.txn_record.proofs.WalkLaws.{join}
-use Rattle.cycle_order.specs.Readiness.{GoesFirst}
 
 abbrev pub Among : {A : Type 0} → A → List A → Type 0
 Among x [] = ⊥

@@ -4,8 +4,8 @@ use Rattle.std.specs.declared.cmp.Ordering.TheVariants.{Less}
 use Rattle.txn_key.specs.Ids.{id_cmp}
 use Rattle.txn_key.specs.declared.id.TxnId.{TxnId}
 use Rattle.cycle_order.specs.Graphs.{HasEdge, settled_at, id_at}
-use Rattle.cycle_order.specs.Readiness.{GoesFirst, AllBefore}
 use Rattle.cycle_order.specs.declared.graph.Graph.{Graph}
+use Rattle.txn_record.specs.Walks.{GoesFirst, AllBefore}
 
 -- an edge goes from the vertex of s to the vertex of t
 pub record Precedes (graph : Graph) (s t : TxnId) : Type 0 where

@@ -3,8 +3,7 @@ use Rattle.std.specs.Prelude.{◌≡◌, ◌≢◌, ℕ, ◌<◌, Bool, true, fa
 use Rattle.std.specs.declared.cmp.Ordering.TheVariants.{Less}
 use Rattle.txn_key.specs.Ids.{id_cmp}
 use Rattle.txn_key.specs.declared.id.TxnId.{TxnId}
-use Rattle.txn_record.specs.Walks.{Leads}
-use Rattle.cycle_order.specs.Readiness.{GoesFirst, AllBefore}
+use Rattle.txn_record.specs.Walks.{Leads, GoesFirst, AllBefore}
 use Rattle.cycle_order.specs.declared.graph.Edge.{Edge}
 use Rattle.cycle_order.specs.declared.graph.Graph.{Graph}
 

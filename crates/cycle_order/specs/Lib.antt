@@ -1,4 +1,3 @@
-pub mod Readiness
 pub mod Graphs
 pub mod Searching
 pub mod Choosing

@@ -8,7 +8,8 @@ use Rattle.store_laws.specs.Readiness.{In}
 
 -- every token in an owner queue is of a settled record, but for those of one record
 pub record IsAlone (view : View) (id : TxnId) : Type 0 where
-  pub others : (key : Key) (x : Token) → In x (view.queue_at key) → x.id ≢ id → settled view x.id ≡ true
+  pub others : (key : Key) (x : Token) → In x (view.queue_at key) → x.id ≢ id
+      → settled view x.id ≡ true
 
 -- every token in an owner queue is of a settled record
 pub record IsAtRest (view : View) : Type 0 where

@@ -15,7 +15,8 @@ use Rattle.store_laws.specs.View.{View, record_at, IsOn, held_number}
 pub record IsChainFrom (view : View) (ops : List Op) (revnos : List ℤ) : Type 0 where
   pub in_turn : follows ops revnos ≡ true
   pub within : stays_within ops revnos ≡ true
-  pub begins : (key : Key) → IsOn key ops → first_on key ops revnos ≡ Some (held_number (view.held_at key))
+  pub begins : (key : Key) → IsOn key ops
+      → first_on key ops revnos ≡ Some (held_number (view.held_at key))
 
 -- an operation stands in a transaction at a number
 abbrev pub IsAt : Op → ℤ → List Op → List ℤ → Type 0
@@ -23,11 +24,16 @@ IsAt op revno (o ∷ ops) (r ∷ revnos) = ((o ≡ op) × (r ≡ revno)) ⊎ IsA
 IsAt op revno [] _ = ⊥
 IsAt op revno _ [] = ⊥
 
--- an applying record with an update among its operations, at its number
-pub record AppliesUpdate (c : Content) (id : TxnId) (rec : Record) (op : Op) (revno : ℤ) (update : Value) : Type 0 where
+-- an applying record with an operation among its own, at its number
+pub record AppliesAt (c : Content) (id : TxnId) (rec : Record) (op : Op) (revno : ℤ) : Type 0 where
   pub there : record_at c id ≡ Some rec
   pub applies : rec.state ≡ state.Applying
   pub numbers : List ℤ
   pub numbered : rec.revnos ≡ Some numbers
   pub stands : IsAt op revno rec.ops numbers
+
+-- the same of an update
+pub record AppliesUpdate (c : Content) (id : TxnId) (rec : Record) (op : Op) (revno : ℤ)
+    (update : Value) : Type 0 where
+  pub at : AppliesAt c id rec op revno
   pub change : op.change ≡ Update update

@@ -24,11 +24,21 @@ applied_revnos outcome.Aborted rec = []
 
 -- the entry of a record that was decided by this call
 abbrev pub entry_at : ℕ → Record → Entry
-entry_at at rec = record { id = rec.id; ops = rec.ops; outcome = outcome_of rec.state; revnos = applied_revnos (outcome_of rec.state) rec; at = at }
+entry_at at rec = record {
+  id = rec.id;
+  ops = rec.ops;
+  outcome = outcome_of rec.state;
+  revnos = applied_revnos (outcome_of rec.state) rec;
+  at = at;
+}
 
 -- a record that is aborting, applying, aborted or applied, and was none of these before
 abbrev pub decision : Content → ℕ → Cell → Option Entry
-decision old at after = option_and_then (λ rec. if was_decided_state rec.state && not (was_decided (look old) rec.id) then Some (entry_at at rec) else None) (as_record after)
+decision old at after =
+    option_and_then
+    (λ rec. if was_decided_state rec.state && not (was_decided (look old) rec.id)
+    then Some (entry_at at rec) else None)
+    (as_record after)
 
 -- the decisions that a call makes, of which one call makes at most one
 abbrev pub decided_by : Content → Content → ℕ → List Entry
@@ -37,4 +47,5 @@ decided_by old new at = filter_map (λ entry. decision old at entry.1) (entries 
 -- the decisions of the n calls after a mark
 abbrev pub decisions : (ℕ → Content) → ℕ → ℕ → List Entry
 decisions trail mark zero = []
-decisions trail mark (suc n) = decisions trail mark n ++ decided_by (trail (mark + n)) (trail (mark + n + 1)) (mark + n + 1)
+decisions trail mark (suc n) =
+    decisions trail mark n ++ decided_by (trail (mark + n)) (trail (mark + n + 1)) (mark + n + 1)

@@ -18,7 +18,9 @@ pub record HasInserted (old new : Content) (id : TxnId) (rec : Record) : Type 0 
   pub now : record_at new id ≡ Some rec
 
 -- a record was in the one state, and is moved on now
-pub record HasMoved (old new : Content) (id : TxnId) (from to : State) (nonce : Option ℕ) (revnos : Option (List ℤ)) : Type 0 where
+pub record HasMoved (old new : Content) (id : TxnId) (from to : State) (nonce : Option ℕ)
+    (revnos : Option (List ℤ))
+    : Type 0 where
   pub was : Record
   pub there : record_at old id ≡ Some was
   pub state : was.state ≡ from
@@ -32,7 +34,8 @@ pub record HasAdded (old new : Content) (key : Key) (token : Token) : Type 0 whe
   pub now : doc_at new key ≡ Some (record doc { queue = with_token token doc.queue })
 
 -- a document was there that the update fits, and has the next number and body now
-pub record HasUpdated (old new : Content) (key : Key) (revno : ℤ) (token : Token) (update : Value) : Type 0 where
+pub record HasUpdated (old new : Content) (key : Key) (revno : ℤ) (token : Token) (update : Value)
+    : Type 0 where
   pub doc : DocCell
   pub body : Value
   pub there : doc_at old key ≡ Some doc

@@ -11,15 +11,16 @@ use Rattle.store_trait.specs.Contents.{Content}
 use Rattle.store_laws.specs.View.{View, look, was_prepared, settled, was_decided, valid_nonce, HasKey}
 use Rattle.store_laws.specs.Readiness.{In, StandsAt, IsReady, IsSpent}
 
--- Nothing new stands before a record that was prepared: states go on, keys and nonces stay, and what stands
--- before such a record now stood there before.
+-- Nothing new stands before a record that was prepared: states go on, keys and nonces stay, and
+-- what stands before such a record now stood there before.
 pub record NothingNewBefore (old new : View) : Type 0 where
   pub decides : (id : TxnId) → was_prepared old id ≡ true → was_prepared new id ≡ true
   pub chooses : (id : TxnId) → was_decided old id ≡ true → was_decided new id ≡ true
   pub settles : (id : TxnId) → settled old id ≡ true → settled new id ≡ true
   pub keys : (id : TxnId) (key : Key) → HasKey old id key → HasKey new id key
   pub nonces : (id : TxnId) → was_prepared old id ≡ true → valid_nonce new id ≡ valid_nonce old id
-  pub stands : (key : Key) (x : Token) (id : TxnId) → was_prepared old id ≡ true → StandsAt new key x id → StandsAt old key x id
+  pub stands : (key : Key) (x : Token) (id : TxnId) → was_prepared old id ≡ true
+      → StandsAt new key x id → StandsAt old key x id
 
 -- a record that waits for its decision
 pub record IsUndecided (view : View) (id : TxnId) : Type 0 where
@@ -30,8 +31,10 @@ pub record IsUndecided (view : View) (id : TxnId) : Type 0 where
 pub record IsLater (old new : View) : Type 0 where
   pub back : NothingNewBefore old new
   pub counter : old.counter ≤ new.counter
-  pub stays : (key : Key) (x : Token) (id : TxnId) → StandsAt old key x id → StandsAt new key x id ⊎ IsSpent new x
-  pub held : (id : TxnId) (key : Key) → IsUndecided old id → IsReady old id → IsUndecided new id → HasKey old id key → new.held_at key ≡ old.held_at key
+  pub stays : (key : Key) (x : Token) (id : TxnId) → StandsAt old key x id
+      → StandsAt new key x id ⊎ IsSpent new x
+  pub held : (id : TxnId) (key : Key) → IsUndecided old id → IsReady old id → IsUndecided new id
+      → HasKey old id key → new.held_at key ≡ old.held_at key
 
 -- the states that a record may be in later on
 abbrev pub may_follow : State → State → Bool
@@ -58,7 +61,8 @@ pub record IsStillThere (view : View) (id : TxnId) (rec : Record) : Type 0 where
 -- No record goes away, and no token leaves an owner queue but one that may be taken out.
 pub record NothingLost (old new : View) : Type 0 where
   pub records : (id : TxnId) (rec : Record) → old.record_at id ≡ Some rec → IsStillThere new id rec
-  pub tokens : (key : Key) (x : Token) → In x (old.queue_at key) → In x (new.queue_at key) ⊎ IsSpent new x
+  pub tokens : (key : Key) (x : Token) → In x (old.queue_at key)
+      → In x (new.queue_at key) ⊎ IsSpent new x
 
 abbrev pub Later : Content → Content → Type 0
 Later old new = IsLater (look old) (look new)

@@ -17,3 +17,6 @@ pub mod History
 pub mod Steps
 pub mod Later
 pub mod Done
+pub mod Entries
+pub mod Since
+pub mod Known

@@ -20,13 +20,17 @@ use Rattle.store_trait.specs.declared.name.Name.TheVariants as name
 
 -- the operations whose number is not yet below the epoch of their key's owner
 abbrev pub not_done : View → List Op → List ℤ → List Op
-not_done view (op ∷ ops) (revno ∷ revnos) = if nat_le (epoch_at view op.key) (unsigned_abs revno) then op ∷ not_done view ops revnos else not_done view ops revnos
+not_done view (op ∷ ops) (revno ∷ revnos) =
+    if nat_le (epoch_at view op.key) (unsigned_abs revno)
+    then op ∷ not_done view ops revnos else not_done view ops revnos
 not_done view [] _ = []
 not_done view _ [] = []
 
 -- what an applying record has still to do
 abbrev pub pending_of : View → Record → List Op
-pending_of view rec = if same_state state.Applying rec.state then not_done view rec.ops (unwrap_or rec.revnos []) else []
+pending_of view rec =
+    if same_state state.Applying rec.state
+    then not_done view rec.ops (unwrap_or rec.revnos []) else []
 
 abbrev pub records : Content → List Record
 records c = filter_map (λ entry. as_record entry.1) (entries c)
@@ -38,7 +42,8 @@ pending c = flat_map (pending_of (look c)) (records c)
 
 -- the body of a document that owns its key
 abbrev pub owned_body : Content → Name × Cell → Option (Key × Value)
-owned_body c (name.Doc key, cell.Doc doc) = by_side (owner_of (Some doc) (stash_at c key)) None (Some (key, doc.body)) None
+owned_body c (name.Doc key, cell.Doc doc) =
+    by_side (owner_of (Some doc) (stash_at c key)) None (Some (key, doc.body)) None
 owned_body c _ = None
 
 -- the bodies of the documents that own their keys

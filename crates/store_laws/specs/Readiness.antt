@@ -4,7 +4,7 @@ use Rattle.txn_key.specs.Ids.{id_cmp}
 use Rattle.txn_key.specs.declared.id.TxnId.{TxnId}
 use Rattle.txn_key.specs.declared.id.Token.{Token}
 use Rattle.txn_key.specs.declared.key.Key.{Key}
-use Rattle.txn_record.specs.Walks.{Leads}
+use Rattle.txn_record.specs.Walks.{Leads, GoesFirst, AllBefore}
 use Rattle.store_laws.specs.View.{View, was_prepared, settled, valid_nonce}
 
 abbrev pub token : TxnId → ℕ → Token
@@ -40,20 +40,20 @@ pub record Precedes (view : View) (first then_ : TxnId) : Type 0 where
 abbrev pub Ancestor : View → TxnId → TxnId → Type 0
 Ancestor view a id = Leads (Precedes view) a id
 
--- every token that stands before a valid token of the record or of an ancestor is of a record that was prepared
+-- every token that stands before a valid token of the record or of an ancestor is of a record that
+-- was prepared
 abbrev pub Sealed : View → TxnId → Type 0
-Sealed view id = (a : TxnId) (x : Token) → Ancestor view a id → Stands view x a → was_prepared view x.id ≡ true
+Sealed view id =
+    (a : TxnId) (x : Token) → Ancestor view a id → Stands view x a → was_prepared view x.id ≡ true
 
--- Every other unsettled ancestor has the record as an ancestor and has a greater id, and the record
--- is sealed.
+-- The record goes first among the unsettled ones by id, and it is sealed.
 pub record IsReady (view : View) (id : TxnId) : Type 0 where
   pub sealed : Sealed view id
-  pub back : (a : TxnId) → Ancestor view a id → a ≢ id → settled view a ≡ false → Ancestor view id a
-  pub least : (a : TxnId) → Ancestor view a id → a ≢ id → settled view a ≡ false → id_cmp id a ≡ Less
+  pub first : GoesFirst (Precedes view) (λ a. settled view a ≡ false) (λ a b. id_cmp a b ≡ Less) id
 
 -- a record and all its ancestors are settled
 abbrev pub IsClean : View → TxnId → Type 0
-IsClean view id = (a : TxnId) → Ancestor view a id → settled view a ≡ true
+IsClean view id = AllBefore (Precedes view) (λ a. settled view a ≡ true) id
 
 -- a token of a prepared record, or a later one, with another nonce than the record's
 pub record IsStale (view : View) (x : Token) : Type 0 where

@@ -1,4 +1,5 @@
 use Rattle.std.specs.Prelude.{◌≡◌, ℕ, true, false, Some, [], ◌∷◌}
+use Rattle.txn_key.specs.declared.key.Key.{Key}
 use Rattle.txn_record.specs.Effects.{effect, tests}
 use Rattle.txn_record.specs.declared.record.Record.{Record}
 use Rattle.store_trait.specs.Contents.{Content}
@@ -8,6 +9,7 @@ use Rattle.txn_record.specs.declared.state.State.{State}
 use Rattle.txn_record.specs.declared.state.State.TheVariants as state
 use Rattle.store_laws.specs.View.{look, record_at, was_decided}
 use Rattle.store_laws.specs.Done.{StaysDone}
+use Rattle.store_laws.specs.Entries.{CellsStay, StaysOrOwns}
 use Rattle.store_laws.specs.Meaning.{meaning}
 use Rattle.store_laws.specs.Decisions.{decided_by, entry_at}
 
@@ -16,11 +18,13 @@ pub record IsStep (old new : Content) : Type 0 where
   pub sound : IsSound new
   pub later : Later old new
   pub lost : NothingLost (look old) (look new)
-  pub done : StaysDone old new
+  pub done : StaysDone (look old) (look new)
+  pub cells : CellsStay old new
 
 -- a call that decides nothing: the meaning stays
 pub record IsQuiet (old new : Content) : Type 0 where
   pub step : IsStep old new
+  pub entry : (key : Key) → StaysOrOwns old new key
   pub means : meaning new ≡ meaning old
   pub none : (at : ℕ) → decided_by old new at ≡ []
 
@@ -34,6 +38,7 @@ pub record ComesTo (old new : Content) (rec : Record) (to : State) : Type 0 wher
 -- whole transaction on it.
 pub record Applies (old new : Content) (rec : Record) : Type 0 where
   pub step : IsStep old new
+  pub entry : (key : Key) → StaysOrOwns old new key
   pub decides : ComesTo old new rec state.Applying
   pub tested : tests rec.ops (meaning old) ≡ true
   pub means : meaning new ≡ effect rec.ops (meaning old)
@@ -42,6 +47,7 @@ pub record Applies (old new : Content) (rec : Record) : Type 0 where
 -- The call that decides to abort: a test fails on the meaning, which stays.
 pub record Aborts (old new : Content) (rec : Record) : Type 0 where
   pub step : IsStep old new
+  pub entry : (key : Key) → StaysOrOwns old new key
   pub decides : ComesTo old new rec state.Aborting
   pub failed : tests rec.ops (meaning old) ≡ false
   pub means : meaning new ≡ meaning old

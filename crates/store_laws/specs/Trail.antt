@@ -4,7 +4,7 @@ use Rattle.txn_key.specs.Documents.{Docs}
 use Rattle.txn_record.specs.declared.entry.Entry.{Entry}
 use Rattle.txn_record.specs.declared.record.Record.{Record}
 use Rattle.store_trait.specs.Contents.{Content}
-use Rattle.store_laws.specs.Decisions.{decisions, outcome_of}
+use Rattle.store_laws.specs.Decisions.{outcome_of}
 use Rattle.store_laws.specs.Meaning.{meaning}
 use Rattle.store_laws.specs.Soundness.{IsSound}
 use Rattle.txn_record.specs.States.{was_decided_state}
@@ -17,13 +17,12 @@ pub data IsCall (old new : Content) : Type 0 where
   Applying : (rec : Record) → Applies old new rec → IsCall old new
   Aborting : (rec : Record) → Aborts old new rec → IsCall old new
 
--- The n calls after a mark, over sound content that meant the base then, with the decisions that they
--- made in order.
-pub record IsTrail (trail : ℕ → Content) (mark n : ℕ) (base : Docs) (order : List Entry) : Type 0 where
+-- The n calls after a mark, over sound content that meant the base then. Their decisions are what the
+-- trail itself shows (`decisions`); whoever keeps an order of its own says beside that it is the same.
+pub record IsTrail (trail : ℕ → Content) (mark n : ℕ) (base : Docs) : Type 0 where
   pub opens : IsSound (trail mark)
   pub base_is : meaning (trail mark) ≡ base
   pub calls : (k : ℕ) → k < n → IsCall (trail (mark + k)) (trail (mark + k + 1))
-  pub order_is : order ≡ decisions trail mark n
 
 -- an entry tells of a record: its transaction, and which way it was decided
 pub record Tells (entry : Entry) (rec : Record) : Type 0 where

@@ -69,10 +69,11 @@ abbrev pub owner_queue : Option DocCell → Option StashCell → List Token
 owner_queue doc stash = by_side (owner_of doc stash) [] (doc_queue doc) (stash_queue stash)
 
 abbrev pub owner_held : Option DocCell → Option StashCell → Held
-owner_held doc stash = by_side (owner_of doc stash) (Number (negsuc 0)) (doc_held doc) (stash_held stash)
+owner_held doc stash =
+    by_side (owner_of doc stash) (Number (negsuc 0)) (doc_held doc) (stash_held stash)
 
--- All that precedence, readiness and pending operations read of a content. Whatever keeps the cells,
--- these words read them through this record alone.
+-- All that precedence, readiness and pending operations read of a content. Whatever keeps the
+-- cells, these words read them through this record alone.
 pub record View : Type 0 where
   pub record_at : TxnId → Option Record
   pub queue_at : Key → List Token
@@ -118,7 +119,8 @@ is_queued_state _ = false
 unfoldable pub is_queued : View → TxnId → Bool
 is_queued view id = state_passes is_queued_state (view.record_at id)
 
--- the nonce of a record that was prepared; a token of it with this nonce is valid, one with another is stale
+-- the nonce of a record that was prepared; a token of it with this nonce is valid, one with
+-- another is stale
 abbrev pub nonce_if_prepared : Record → Option ℕ
 nonce_if_prepared rec = if was_prepared_state rec.state then rec.nonce else None
 

@@ -9,25 +9,30 @@ ghost use Rattle.store_trait.specs.Contents.{Content};
 ghost use Rattle.store_trait.specs.Edits.{hit, edited};
 ghost use Rattle.store_laws.specs.Later.{IsUndecided, Later};
 ghost use Rattle.store_laws.specs.Readiness.{IsReady, IsClean, IsSpent};
+ghost use Rattle.store_laws.specs.Since.{Since};
 ghost use Rattle.store_laws.specs.Soundness.{IsSound};
 ghost use Rattle.store_laws.specs.Steps.{IsStep, IsQuiet};
 ghost use Rattle.store_laws.specs.View.{look, was_prepared, settled, is_queued, applying, HasKey};
 ghost use Rattle.store_trait.specs.declared.edit.Edit.{Edit};
 ghost use Rattle.store_trait.specs.declared.name.Name.{Name};
 
-/// No call at all is a quiet step, as is a call that only reads or that misses; and two steps, one
-/// after the other, are one.
+/// No call at all is a quiet step, as is a call that only reads or that misses. Two steps, one after
+/// the other, are one, and so is a chain of calls; two chains are one chain.
 pub fn steps_follow()
     ensures none { (c : Content) → IsSound c → IsQuiet c c }
     ensures missed { (c : Content) (n : Name) (e : Edit) → is_some (hit e n (get c n)) ≡ false → edited c n e ≡ c }
     ensures both { (a b c : Content) → IsStep a b → IsStep b c → IsStep a c }
+    ensures chained { (c d : Content) → IsSound c → Since c d → IsStep c d }
+    ensures joined { (b c d : Content) → Since b c → Since c d → Since b d }
 {}
 
-/// A record that is ready stays so until it is settled. One that is clean stays so, and so does a token
-/// that may be taken out.
+/// A record that is ready stays so until it is settled, and until it is decided, what the owners of its
+/// keys hold stays. One that is clean stays so, and so does a token that may be taken out.
 pub fn readiness_lasts()
     ensures ready { (c d : Content) (id : TxnId) → Later c d → was_prepared (look c) id ≡ true → settled (look d) id ≡ false →
         IsReady (look c) id → IsReady (look d) id }
+    ensures held { (c d : Content) (id : TxnId) (key : Key) → Later c d → IsUndecided (look c) id → IsReady (look c) id →
+        IsUndecided (look d) id → HasKey (look c) id key → (look d).held_at key ≡ (look c).held_at key }
     ensures clean { (c d : Content) (id : TxnId) → IsSound c → Later c d → IsClean (look c) id → IsClean (look d) id }
     ensures spent { (c d : Content) (x : Token) → IsSound c → Later c d → IsSpent (look c) x → IsSpent (look d) x }
 {}

@@ -1,18 +1,12 @@
-//! What the owner of a key holds, where the key has no stash entry.
-ghost use Rattle.std.specs.Prelude.{◌≡◌, Some, None, []};
+//! What the owner of a key holds, by the key's two cells.
+ghost use Rattle.std.specs.Prelude.{◌≡◌};
 ghost use Rattle.txn_key.specs.declared.key.Key.{Key};
 ghost use Rattle.store_trait.specs.Contents.{Content};
-ghost use Rattle.store_laws.specs.Done.{progress};
-ghost use Rattle.store_laws.specs.View.{Body, look, doc_at, stash_at, epoch_at};
-ghost use Rattle.store_trait.specs.declared.cell.DocCell.{DocCell};
+ghost use Rattle.store_laws.specs.View.{look, doc_at, stash_at, owner_queue, owner_held};
 
-/// A document with no stash entry beside it owns its key: the owner queue is its queue, and its number
-/// and body are what is held. And the key has come as far as its owner.
+/// The owner queue of a key is its owner's, and what is held is the owner's number, and its body where it
+/// is a document. Which cell owns is said by the two cells alone.
 pub fn owning_a_key()
-    ensures queue { (c : Content) (key : Key) (doc : DocCell) → doc_at c key ≡ Some doc → stash_at c key ≡ None →
-        (look c).queue_at key ≡ doc.queue }
-    ensures held { (c : Content) (key : Key) (doc : DocCell) → doc_at c key ≡ Some doc → stash_at c key ≡ None →
-        (look c).held_at key ≡ Body doc.revno doc.body }
-    ensures nobody { (c : Content) (key : Key) → doc_at c key ≡ None → stash_at c key ≡ None → (look c).queue_at key ≡ [] }
-    ensures come { (c : Content) (key : Key) → stash_at c key ≡ None → progress c key ≡ epoch_at (look c) key }
+    ensures queue { (c : Content) (key : Key) → (look c).queue_at key ≡ owner_queue (doc_at c key) (stash_at c key) }
+    ensures held { (c : Content) (key : Key) → (look c).held_at key ≡ owner_held (doc_at c key) (stash_at c key) }
 {}

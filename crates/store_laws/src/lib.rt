@@ -10,11 +10,13 @@ mod forward;
 mod gathering;
 mod histories;
 mod holding;
+mod knowing;
 mod plain;
 mod preparing;
+mod queueing;
+mod reading;
 mod settling;
 mod submitting;
-mod queueing;
 
 pub use alone::{being_alone_lasts, being_alone_makes_ready};
 pub use deciding::{
@@ -25,13 +27,15 @@ pub use documents::{bodies_as_they_lie, meaning_at_rest};
 pub use edits::{edits_are_local, edits_hit, edits_leave};
 pub use forward::{readiness_lasts, ready_records_share_no_key, steps_follow};
 pub use gathering::{findings_last, gathering_the_ready, gatherings_last, scanning_own_keys};
-pub use histories::{growing_a_trail, reading_an_order, trusting_a_trail};
+pub use histories::{dividing_a_trail, growing_a_trail, reading_an_order, trusting_a_trail};
 pub use holding::owning_a_key;
+pub use knowing::{marked_cells_last, passing_lasts, queueing_lasts, records_last};
 pub use plain::staying_plain;
 pub use preparing::preparing_a_record;
+pub use queueing::{adding_a_token, drawing_a_nonce, nonces_are_fresh, nonces_are_given};
+pub use reading::reading_a_key;
 pub use settling::{
-    closing_an_aborted_record, closing_an_applied_record, passing_without_effect, staying_done,
+    closing_an_aborted_record, closing_an_applied_record, passing_an_operation, staying_done,
     updating_a_document, updating_too_late,
 };
 pub use submitting::{beginning_with_nothing, inserting_a_record, placing_a_document};
-pub use queueing::{adding_a_token, drawing_a_nonce, nonces_are_fresh, nonces_are_given};

@@ -1,5 +1,5 @@
 //! How a record comes to wait on its keys: a nonce is drawn for it, and its token is added.
-ghost use Rattle.std.specs.Prelude.{◌≡◌, ◌≢◌, ℕ, ◌<◌, ℤ, List, Option, Some, None};
+ghost use Rattle.std.specs.Prelude.{◌≡◌, ◌≢◌, ℕ, ◌<◌, ℤ, List, Option, Some, None, ◌⊎◌};
 ghost use Rattle.txn_key.specs.declared.id.Token.{Token};
 ghost use Rattle.txn_key.specs.declared.id.TxnId.{TxnId};
 ghost use Rattle.txn_key.specs.declared.key.Key.{Key};
@@ -14,7 +14,11 @@ ghost use Rattle.store_laws.specs.View.{look, record_at, counter, valid_nonce, H
 ghost use Rattle.store_trait.specs.declared.edit.Edit.{Edit};
 ghost use Rattle.store_trait.specs.declared.edit.Edit.TheVariants as edit;
 ghost use Rattle.store_trait.specs.declared.name.Name.TheVariants as name;
+ghost use Rattle.store_trait.specs.Owners.{epoch};
+ghost use Rattle.store_laws.specs.Entries.{stash_epoch};
+ghost use Rattle.store_laws.specs.Hits.{HasAdded};
 ghost use Rattle.store_laws.specs.Nonces.{NoncesCome, NoncesStay};
+ghost use Rattle.store_laws.specs.Readiness.{In};
 
 /// Drawing a nonce decides nothing, and the meaning stays.
 pub fn drawing_a_nonce()
@@ -38,13 +42,17 @@ pub fn nonces_are_given()
     ensures inserted { (c : Content) (id : TxnId) (rec : Record) → rec.state ≡ state.Preparing →
         NoncesStay (look c) (look (edited c (name.Record id) (edit.InsertRecord rec))) }
     ensures docs { (c : Content) (key : Key) (e : Edit) → NoncesStay (look c) (look (edited c (name.Doc key) e)) }
+    ensures stashes { (c : Content) (key : Key) (e : Edit) → NoncesStay (look c) (look (edited c (name.Stash key) e)) }
     ensures drawn { (c : Content) (e : Edit) → NoncesStay (look c) (look (edited c name.Nonce e)) }
 {}
 
 /// Adding a token decides nothing, and the meaning stays: a token that was drawn, of a record that is
-/// there, has the key and doesn't have that nonce yet.
+/// there, has the key and doesn't have that nonce yet. Where it was added, it waits in the owner queue,
+/// or a stash entry is past the document.
 pub fn adding_a_token()
-    ensures { (c : Content) (key : Key) (token : Token) →
+    ensures quiet { (c : Content) (key : Key) (token : Token) →
         IsSound c → HasKey (look c) token.id key → token.nonce < counter c → valid_nonce (look c) token.id ≢ Some token.nonce →
         IsQuiet c (edited c (name.Doc key) (edit.AddToken token)) }
+    ensures waits { (c d : Content) (key : Key) (token : Token) (added : HasAdded c d key token) →
+        In token ((look d).queue_at key) ⊎ (epoch added.doc.revno < stash_epoch d key) }
 {}

@@ -1,5 +1,5 @@
-use Rattle.store_laws.proofs.AfterEdits.{record_edit_queues, nonce_edit_queues, update_queues, place_queues, add_comes, added_waits}
-use Rattle.store_laws.proofs.AmongSettled.{alone_same, alone_comes, rest_same}
+use Rattle.store_laws.proofs.cells.AfterEdits.{record_edit_queues, nonce_edit_queues, update_queues, place_queues, add_comes, added_waits}
+use Rattle.store_laws.proofs.views.AmongSettled.{alone_same, alone_comes, rest_same}
 use Rattle.store_laws.proofs.alone.being_alone_lasts.Goals as goal
 
 pub returns : goal.returns

@@ -1,4 +1,4 @@
-use Rattle.store_laws.proofs.AmongSettled.{alone_ready, rest_alone, alone_rest}
+use Rattle.store_laws.proofs.views.AmongSettled.{alone_ready, rest_alone, alone_rest}
 use Rattle.store_laws.proofs.alone.being_alone_makes_ready.Goals as goal
 
 pub returns : goal.returns

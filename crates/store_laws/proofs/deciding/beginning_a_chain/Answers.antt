@@ -1,4 +1,4 @@
-use Rattle.store_laws.proofs.OneOperation.{chain_one}
+use Rattle.store_laws.proofs.meanings.OneOperation.{chain_one}
 use Rattle.store_laws.proofs.deciding.beginning_a_chain.Goals as goal
 
 pub returns : goal.returns

@@ -1,4 +1,4 @@
-use Rattle.store_laws.proofs.DecidingMoves.{abort_decides}
+use Rattle.store_laws.proofs.steps.DecidingMoves.{abort_decides}
 use Rattle.store_laws.proofs.deciding.deciding_to_abort.Goals as goal
 
 pub returns : goal.returns

@@ -1,4 +1,4 @@
-use Rattle.store_laws.proofs.DecidingMoves.{apply_decides}
+use Rattle.store_laws.proofs.steps.DecidingMoves.{apply_decides}
 use Rattle.store_laws.proofs.deciding.deciding_to_apply.Goals as goal
 
 pub returns : goal.returns

@@ -1,5 +1,5 @@
-use Rattle.store_laws.proofs.DecidingMoves.{free_keys}
-use Rattle.store_laws.proofs.Effects.{meaning-free}
+use Rattle.store_laws.proofs.steps.DecidingMoves.{free_keys}
+use Rattle.store_laws.proofs.meanings.Effects.{meaning-free}
 use Rattle.store_laws.proofs.deciding.testing_a_ready_record.Goals as goal
 
 pub returns : goal.returns

@@ -1,4 +1,4 @@
-use Rattle.store_laws.proofs.OneOperation.{tests_one}
+use Rattle.store_laws.proofs.meanings.OneOperation.{tests_one}
 use Rattle.store_laws.proofs.deciding.testing_one_operation.Goals as goal
 
 pub returns : goal.returns

@@ -1,5 +1,5 @@
-use Rattle.store_laws.proofs.AfterEdits.{record_elsewhere, doc_elsewhere, stash_elsewhere, counter_elsewhere}
-use Rattle.store_laws.proofs.Local.{edited_there, edited_elsewhere}
+use Rattle.store_laws.proofs.cells.AfterEdits.{record_elsewhere, doc_elsewhere, stash_elsewhere, counter_elsewhere}
+use Rattle.store_laws.proofs.cells.Local.{edited_there, edited_elsewhere}
 use Rattle.store_laws.proofs.edits.edits_are_local.Goals as goal
 
 pub returns : goal.returns

@@ -1,4 +1,4 @@
-use Rattle.store_laws.proofs.Hits.{insert_must, move_must, add_must, update_must, draw_must, place_must}
+use Rattle.store_laws.proofs.cells.Hits.{insert_must, move_must, add_must, update_must, draw_must, place_must}
 use Rattle.store_laws.proofs.edits.edits_hit.Goals as goal
 
 pub returns : goal.returns

@@ -1,4 +1,4 @@
-use Rattle.store_laws.proofs.Hits.{insert_hit, move_hit, add_hit, update_hit, draw_hit}
+use Rattle.store_laws.proofs.cells.Hits.{insert_hit, move_hit, add_hit, update_hit, draw_hit}
 use Rattle.store_laws.proofs.edits.edits_leave.Goals as goal
 
 pub returns : goal.returns

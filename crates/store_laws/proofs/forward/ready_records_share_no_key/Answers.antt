@@ -1,5 +1,5 @@
-use Rattle.store_laws.proofs.Exclusive.{never_both, one_applying, none_applying}
-use Rattle.store_laws.proofs.Orderly.{orderly}
+use Rattle.store_laws.proofs.views.Exclusive.{never_both, one_applying, none_applying}
+use Rattle.store_laws.proofs.views.Orderly.{orderly}
 use Rattle.store_laws.proofs.forward.ready_records_share_no_key.Goals as goal
 
 pub returns : goal.returns

@@ -1,5 +1,5 @@
-use Rattle.store_laws.proofs.Finding.{found_later, found_edge, listed_later, missing_listed, missing_settled}
-use Rattle.store_laws.proofs.Orderly.{orderly}
+use Rattle.store_laws.proofs.views.Finding.{found_later, found_edge, listed_later, missing_listed, missing_settled}
+use Rattle.store_laws.proofs.views.Orderly.{orderly}
 use Rattle.store_laws.proofs.gathering.findings_last.Goals as goal
 
 pub returns : goal.returns

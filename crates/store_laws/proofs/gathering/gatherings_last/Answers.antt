@@ -1,5 +1,5 @@
-use Rattle.store_laws.proofs.Graphs.{gathered_later, followed_later, scanned_later, followed_more, scanned_more}
-use Rattle.store_laws.proofs.Orderly.{orderly}
+use Rattle.store_laws.proofs.views.Graphs.{gathered_later, followed_later, scanned_later, followed_more, scanned_more}
+use Rattle.store_laws.proofs.views.Orderly.{orderly}
 use Rattle.store_laws.proofs.gathering.gatherings_last.Goals as goal
 
 pub returns : goal.returns

@@ -1,5 +1,5 @@
-use Rattle.store_laws.proofs.Graphs.{scanned_from, scanned_own}
-use Rattle.store_laws.proofs.Orderly.{orderly}
+use Rattle.store_laws.proofs.views.Graphs.{scanned_from, scanned_own}
+use Rattle.store_laws.proofs.views.Orderly.{orderly}
 use Rattle.store_laws.proofs.gathering.scanning_own_keys.Goals as goal
 
 pub returns : goal.returns

@@ -1,5 +1,7 @@
-use Rattle.store_laws.proofs.Owners.{doc_queue_alone, doc_held_alone, queue_of_none, come_alone}
+use Rattle.std.proofs.Common.{refl}
+use Rattle.store_laws.specs.View.{look}
 use Rattle.store_laws.proofs.holding.owning_a_key.Goals as goal
 
 pub returns : goal.returns
-returns c = record { queue = doc_queue_alone; held = doc_held_alone; nobody = queue_of_none; come = come_alone }
+unfolding look
+returns c = record { queue = λ c key. refl; held = λ c key. refl }

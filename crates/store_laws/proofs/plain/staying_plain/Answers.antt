@@ -1,4 +1,4 @@
-use Rattle.store_laws.proofs.PlainEdits.{plain_empty, plain_record, plain_nonce, plain_add, plain_update, plain_place}
+use Rattle.store_laws.proofs.steps.PlainEdits.{plain_empty, plain_record, plain_nonce, plain_add, plain_update, plain_place}
 use Rattle.store_laws.proofs.plain.staying_plain.Goals as goal
 
 pub returns : goal.returns

@@ -1,4 +1,4 @@
-use Rattle.store_laws.proofs.RecordEdits.{prepare_quiet}
+use Rattle.store_laws.proofs.steps.RecordEdits.{prepare_quiet}
 use Rattle.store_laws.proofs.preparing.preparing_a_record.Goals as goal
 
 pub returns : goal.returns

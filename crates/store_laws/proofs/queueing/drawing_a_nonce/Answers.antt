@@ -1,4 +1,4 @@
-use Rattle.store_laws.proofs.DocEdits.{draw_quiet}
+use Rattle.store_laws.proofs.steps.DocEdits.{draw_quiet}
 use Rattle.store_laws.proofs.queueing.drawing_a_nonce.Goals as goal
 
 pub returns : goal.returns

@@ -1,4 +1,4 @@
-use Rattle.store_laws.proofs.Closing.{close_quiet}
+use Rattle.store_laws.proofs.steps.Closing.{close_quiet}
 use Rattle.store_laws.proofs.settling.closing_an_applied_record.Goals as goal
 
 pub returns : goal.returns

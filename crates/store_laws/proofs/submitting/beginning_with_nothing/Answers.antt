@@ -1,4 +1,4 @@
-use Rattle.store_laws.proofs.Empty.{empty_sound, empty_means, empty_rests, no_stash}
+use Rattle.store_laws.proofs.cells.Empty.{empty_sound, empty_means, empty_rests, no_stash}
 use Rattle.store_laws.proofs.submitting.beginning_with_nothing.Goals as goal
 
 pub returns : goal.returns

@@ -1,4 +1,4 @@
-use Rattle.store_laws.proofs.RecordEdits.{insert_quiet}
+use Rattle.store_laws.proofs.steps.RecordEdits.{insert_quiet}
 use Rattle.store_laws.proofs.submitting.inserting_a_record.Goals as goal
 
 pub returns : goal.returns

@@ -1,4 +1,4 @@
-use Rattle.store_laws.proofs.Placing.{place_means}
+use Rattle.store_laws.proofs.steps.Placing.{place_means}
 use Rattle.store_laws.proofs.submitting.placing_a_document.Goals as goal
 
 pub returns : goal.returns

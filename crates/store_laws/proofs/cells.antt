@@ -1,0 +1,16 @@
+pub mod Under
+pub mod Lookups
+pub mod Looks
+pub mod Parts
+pub mod Owners
+pub mod Owning
+pub mod Entries
+pub mod Marks
+pub mod CellRules
+pub mod SoundParts
+pub mod Local
+pub mod AfterEdits
+pub mod Hits
+pub mod Misses
+pub mod Empty
+pub mod Records

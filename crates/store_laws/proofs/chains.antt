@@ -1,0 +1,10 @@
+pub mod Numbers
+pub mod NumberAfter
+pub mod Chains
+pub mod ChainOrder
+pub mod Inherits
+pub mod OneEffect
+pub mod Applying
+pub mod Reaching
+pub mod Done
+pub mod Passing

@@ -1,0 +1,12 @@
+pub mod Bodies
+pub mod Meanings
+pub mod Runs
+pub mod Splits
+pub mod Idle
+pub mod Effects
+pub mod Fitting
+pub mod Taken
+pub mod Thinned
+pub mod Decided
+pub mod Resting
+pub mod OneOperation

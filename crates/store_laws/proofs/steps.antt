@@ -1,0 +1,14 @@
+pub mod RecordEdits
+pub mod DocEdits
+pub mod DecidingMoves
+pub mod Updating
+pub mod UpdateEdits
+pub mod Outdated
+pub mod Late
+pub mod Closing
+pub mod Placing
+pub mod PlainEdits
+pub mod Nonces
+pub mod Chained
+pub mod Moments
+pub mod Known

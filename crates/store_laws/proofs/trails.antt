@@ -1,0 +1,5 @@
+pub mod TrailGrows
+pub mod TrailFaithful
+pub mod TrailLegal
+pub mod TrailTells
+pub mod TrailSplits
