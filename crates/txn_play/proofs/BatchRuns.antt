@@ -1,5 +1,5 @@
 -- The Run of a batch: from the listing of its base to the end of its calls.
-use Rattle.std.proofs.Common.{◌≡◌, ℕ, Bool, List, [], ◌∷◌, ◌++◌, Result, Ok, Err, IfOk, IfErr, IsTrue, true, inl, inr, refl, sym, ap, ◌∙◌, subst, arith, length, false, None, ⊎_elim}
+use Rattle.std.proofs.Common.{◌≡◌, ◌⊎◌, ℕ, Bool, List, [], ◌∷◌, ◌++◌, Result, Ok, Err, IfOk, IfErr, IsTrue, true, inl, inr, refl, sym, ap, ◌∙◌, subst, arith, length, false, None, ⊎_elim}
 use Rattle.txn_key.specs.Documents.{Docs}
 use Rattle.store_trait.specs.Stores.{CallsGoOn}
 use Rattle.store_trait.specs.Contents.{Content}
@@ -24,10 +24,12 @@ use Rattle.txn_play.proofs.Runs.{runs_same, runs_add, run_means, run_legal}
 use Rattle.txn_key.specs.declared.id.TxnId.{TxnId}
 use Rattle.txn_record.specs.Orders.{after}
 use Rattle.txn_record.specs.States.{was_decided_state}
+use Rattle.txn_record.specs.declared.entry.Entry.{Entry}
 use Rattle.txn_record.specs.declared.entry.Outcome.{Outcome}
 use Rattle.txn_record.specs.declared.entry.Outcome.TheVariants as outcome
 use Rattle.txn_record.specs.declared.state.State.{State}
-use Rattle.store_laws.proofs.TrailTells.{trail_records}
+use Rattle.store_laws.proofs.trails.TrailTells.{trail_records}
+use Rattle.store_laws.specs.Trail.{IsRecorded}
 use Rattle.txn_runner.specs.Settling.{settled_state}
 use Rattle.txn_play.proofs.Batches.{both_every}
 use Rattle.store_trait.specs.declared.store.Store.{Ghosts}
@@ -65,7 +67,8 @@ ran_batch store old now waiting run states may was is mark base turns works uses
     stands txn m e = record {
       ended = e;
       entry = ⊎_elim (λ was_chosen. absurd (clash (subst (λ (x : Content). was_decided (look x) txn.id ≡ true) from was_chosen) (unchosen (store.content old) txn.id m.fresh))) (λ recorded. recorded)
-          (trail_records (store.trail now) run.mark has.made run.base run.order has.told txn.id e.settled.rec (ap (λ (x : Content). record_at x txn.id) (ap (store.trail now) (sym has.counted) ∙ is) ∙ e.settled.there) (chosen_end e.outcome e.settled.rec.state e.settled.ends));
+          (subst (λ (l : List Entry). (was_decided (look (store.trail now run.mark)) txn.id ≡ true) ⊎ IsRecorded l e.settled.rec) (sym has.order_is)
+          (trail_records (store.trail now) run.mark has.made run.base has.told txn.id e.settled.rec (ap (λ (x : Content). record_at x txn.id) (ap (store.trail now) (sym has.counted) ∙ is) ∙ e.settled.there) (chosen_end e.outcome e.settled.rec.state e.settled.ends)));
     }
       where
         clash : {b : Bool} → b ≡ true → b ≡ false → ⊥

@@ -19,9 +19,9 @@ use Rattle.store_trait.specs.Names.{same_id}
 use Rattle.store_laws.specs.Soundness.{IsSound}
 use Rattle.store_laws.specs.Steps.{IsStep}
 use Rattle.store_laws.specs.View.{look, record_at, settled, state_passes}
-use Rattle.store_laws.proofs.AmongSettled.{rest_alone, alone_rest}
-use Rattle.store_laws.proofs.Chained.{step_then}
-use Rattle.store_laws.proofs.Misses.{quiet_itself}
+use Rattle.store_laws.proofs.views.AmongSettled.{rest_alone, alone_rest}
+use Rattle.store_laws.proofs.steps.Chained.{step_then}
+use Rattle.store_laws.proofs.cells.Misses.{quiet_itself}
 use Rattle.txn_runner.proofs.Beside.{docs_stay}
 use Rattle.txn_runner.proofs.Numbers.{uses_none, uses_then, uses_within}
 use Rattle.txn_runner.specs.Numbers.{Uses}

@@ -6,8 +6,8 @@ use Rattle.txn_record.specs.declared.entry.Entry.{Entry}
 use Rattle.store_trait.specs.Contents.{Content}
 use Rattle.store_laws.specs.Meaning.{meaning}
 use Rattle.store_laws.specs.Soundness.{IsSound}
-use Rattle.store_laws.proofs.TrailFaithful.{trail_faithful, means_at}
-use Rattle.store_laws.proofs.TrailLegal.{trail_legal}
+use Rattle.store_laws.proofs.trails.TrailFaithful.{trail_faithful, means_at}
+use Rattle.store_laws.proofs.trails.TrailLegal.{trail_legal}
 use Rattle.txn_runner.specs.Running.{HasRun}
 use Rattle.txn_play.specs.Runs.{RunsGoOn, AreFaithful, end_of}
 use Rattle.txn_play.specs.declared.run.Run.{Run}
@@ -16,10 +16,10 @@ use Rattle.txn_runner.proofs.Running.{run_same, run_reads}
 -- what the store means at the end of a run
 pub run_means : (trail : ℕ → Content) (mark n : ℕ) (base : Docs) (order : List Entry) → HasRun trail mark n base order → meaning (trail n) ≡ after base order
 run_means trail mark n base order h =
-    ap (λ (k : ℕ). meaning (trail k)) h.counted ∙ means_at trail mark h.made base order h.told h.made (omega arith) ∙ ap (after base) (sym h.told.order_is)
+    ap (λ (k : ℕ). meaning (trail k)) h.counted ∙ means_at trail mark h.made base h.told h.made (omega arith) ∙ ap (after base) (sym h.order_is)
 
 pub run_legal : (trail : ℕ → Content) (mark n : ℕ) (base : Docs) (order : List Entry) → HasRun trail mark n base order → legal base order ≡ true
-run_legal trail mark n base order h = trail_legal trail mark h.made base order h.told
+run_legal trail mark n base order h = ap (legal base) h.order_is ∙ trail_legal trail mark h.made base h.told
 
 -- marks and ends stand in order
 end_within : (trail : ℕ → Content) (runs : List Run) (last : ℕ) → RunsGoOn trail runs last → end_of runs last ≤ last
@@ -46,7 +46,7 @@ runs_add q (first ∷ next ∷ runs) run m n h mark base has = (h.0, h.1, runs_a
 pub runs_faithful : (trail : ℕ → Content) (runs : List Run) (last : ℕ) → RunsGoOn trail runs last → AreFaithful trail runs last
 runs_faithful trail [] last h = tt
 runs_faithful trail (run ∷ runs) last h = (
-  record { made = h.0.made; counted = h.0.counted; faithful = trail_faithful trail run.mark h.0.made run.base run.order h.0.told; legal = trail_legal trail run.mark h.0.made run.base run.order h.0.told },
+  record { made = h.0.made; counted = h.0.counted; order_is = h.0.order_is; faithful = trail_faithful trail run.mark h.0.made run.base h.0.told; legal = run_legal trail run.mark (end_of runs last) run.base run.order h.0 },
   h.1,
   runs_faithful trail runs last h.2,
 )

@@ -21,13 +21,13 @@ use Rattle.store_trait.specs.declared.cell.Cell.TheVariants as cell
 use Rattle.store_trait.specs.declared.edit.Edit.TheVariants as edit
 use Rattle.store_trait.specs.declared.name.Name.TheVariants as name
 use Rattle.store_laws.specs.Placed.{new_doc}
-use Rattle.store_laws.proofs.AfterEdits.{place_queues}
-use Rattle.store_laws.proofs.AmongSettled.{rest_same}
-use Rattle.store_laws.proofs.Misses.{miss_leaves}
-use Rattle.store_laws.proofs.Placing.{place_means}
-use Rattle.store_laws.proofs.Empty.{empty_sound, empty_rests}
-use Rattle.store_laws.proofs.PlainEdits.{plain_empty, plain_place}
-use Rattle.store_laws.proofs.Records.{same_id-equal}
+use Rattle.store_laws.proofs.cells.AfterEdits.{place_queues}
+use Rattle.store_laws.proofs.views.AmongSettled.{rest_same}
+use Rattle.store_laws.proofs.cells.Misses.{miss_leaves}
+use Rattle.store_laws.proofs.steps.Placing.{place_means}
+use Rattle.store_laws.proofs.cells.Empty.{empty_sound, empty_rests}
+use Rattle.store_laws.proofs.steps.PlainEdits.{plain_empty, plain_place}
+use Rattle.store_laws.proofs.cells.Records.{same_id-equal}
 use Rattle.txn_play.specs.Batches.{waits, are_distinct, Every, MayBegin, MayRun}
 use Rattle.txn_runner.specs.Calm.{IsCalm}
 use Rattle.txn_runner.specs.Running.{OnlyReads}

@@ -2,6 +2,7 @@
 use Rattle.std.specs.Prelude.{◌≡◌, ◌+◌, true, ℕ, List, [], ◌∷◌}
 use Rattle.txn_record.specs.Orders.{after, legal}
 use Rattle.store_trait.specs.Contents.{Content}
+use Rattle.store_laws.specs.Decisions.{decisions}
 use Rattle.store_laws.specs.History.{IsFaithful}
 use Rattle.txn_runner.specs.Running.{HasRun}
 use Rattle.txn_play.specs.declared.run.Run.{Run}
@@ -27,7 +28,8 @@ EachRun P (run ∷ runs) last = P run (end_of runs last) × LeadsOn run runs × 
 pub record IsFaithfulRun (trail : ℕ → Content) (run : Run) (end : ℕ) : Type 0 where
   pub made : ℕ
   pub counted : end ≡ run.mark + made
-  pub faithful : IsFaithful trail run.mark made run.base run.order
+  pub order_is : run.order ≡ decisions trail run.mark made
+  pub faithful : IsFaithful trail run.mark made run.base
   pub legal : legal run.base run.order ≡ true
 
 abbrev pub AreFaithful : (ℕ → Content) → List Run → ℕ → Type 0

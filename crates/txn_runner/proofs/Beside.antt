@@ -21,8 +21,8 @@ use Rattle.store_trait.specs.declared.edit.Edit.{Edit}
 use Rattle.store_trait.specs.declared.edit.Edit.TheVariants as edit
 use Rattle.store_trait.specs.declared.name.Name.{Name}
 use Rattle.store_trait.specs.declared.name.Name.TheVariants as name
-use Rattle.store_laws.proofs.AfterEdits.{record_elsewhere}
-use Rattle.store_laws.proofs.Local.{edited_elsewhere}
+use Rattle.store_laws.proofs.cells.AfterEdits.{record_elsewhere}
+use Rattle.store_laws.proofs.cells.Local.{edited_elsewhere}
 use Rattle.txn_runner.specs.Settling.{KeepsOthers, HasDocuments}
 use Rattle.txn_runner.specs.Store.{has_document}
 use Rattle.txn_runner.specs.declared.waiting.Waiting.{Waiting}

@@ -18,13 +18,13 @@ use Rattle.store_laws.specs.View.{look}
 use Rattle.store_trait.specs.declared.edit.Edit.TheVariants as edit
 use Rattle.store_trait.specs.declared.name.Name.TheVariants as name
 use Rattle.store_laws.specs.Chains.{IsAt, AppliesUpdate}
-use Rattle.store_laws.proofs.AfterEdits.{record_elsewhere, record_edit_queues, update_queues}
-use Rattle.store_laws.proofs.AmongSettled.{alone_ready, alone_same}
-use Rattle.store_laws.proofs.Closing.{close_quiet}
-use Rattle.store_laws.proofs.DecidingMoves.{apply_decides, abort_decides}
-use Rattle.store_laws.proofs.PlainEdits.{plain_record, plain_update}
-use Rattle.store_laws.proofs.RecordEdits.{end_quiet}
-use Rattle.store_laws.proofs.UpdateEdits.{update_quiet, update_passes_alone}
+use Rattle.store_laws.proofs.cells.AfterEdits.{record_elsewhere, record_edit_queues, update_queues}
+use Rattle.store_laws.proofs.views.AmongSettled.{alone_ready, alone_same}
+use Rattle.store_laws.proofs.steps.Closing.{close_quiet}
+use Rattle.store_laws.proofs.steps.DecidingMoves.{apply_decides, abort_decides}
+use Rattle.store_laws.proofs.steps.PlainEdits.{plain_record, plain_update}
+use Rattle.store_laws.proofs.steps.RecordEdits.{end_quiet}
+use Rattle.store_laws.proofs.steps.UpdateEdits.{update_quiet, update_passes_alone}
 use Rattle.txn_runner.proofs.Beside.{record_others, update_others, docs_stay}
 use Rattle.txn_runner.specs.Settling.{stored, IsThere, IsWorth, StageIsWorth}
 use Rattle.txn_runner.specs.declared.stage.Stage.{Stage}
@@ -69,7 +69,7 @@ module _ (c : Content) (txn : Waiting) (nonce : ℕ) (revno : ℤ) where
         nonce = nonce;
         revno = revno;
         there = applied_there true w;
-        passed = subst (λ (ops : List Op). AllPassed (edited c (name.Record txn.id) (edit.Move state.Prepared state.Applying None (Some (revno ∷ [])))) ops (revno ∷ [])) (sym one) (inl is, tt);
+        passed = subst (λ (ops : List Op). AllPassed (look (edited c (name.Record txn.id) (edit.Move state.Prepared state.Applying None (Some (revno ∷ []))))) ops (revno ∷ [])) (sym one) (inl is, tt);
       }))
 
   pub give_up_worth : IsWorth c txn (stage.Decide nonce revno false) → IsWorth (edited c (name.Record txn.id) (edit.Move state.Prepared state.Aborting None None)) txn stage.Abort
@@ -93,7 +93,7 @@ module _ (c : Content) (txn : Waiting) (op : Op) (one : txn.ops ≡ op ∷ []) (
   stands_there = subst (λ (ops : List Op). IsAt op revno ops (revno ∷ [])) (sym one) (inl (refl, refl))
 
   applies : AppliesUpdate c txn.id (stored txn state.Applying (Some nonce) (Some (revno ∷ []))) op revno update
-  applies = record { there = w.stage; applies = refl; numbers = revno ∷ []; numbered = refl; stands = stands_there; change = sym is }
+  applies = record { at = record { there = w.stage; applies = refl; numbers = revno ∷ []; numbered = refl; stands = stands_there }; change = sym is }
 
   pub update_quietly : IsQuiet c (edited c (name.Doc op.key) (edit.Update revno (token txn.id nonce) update))
   update_quietly = update_quiet c txn.id (stored txn state.Applying (Some nonce) (Some (revno ∷ []))) op revno update (token txn.id nonce) w.sound applies
@@ -112,7 +112,7 @@ module _ (c : Content) (txn : Waiting) (op : Op) (one : txn.ops ≡ op ∷ []) (
           nonce = nonce;
           revno = revno;
           there = record_elsewhere c (name.Doc op.key) e txn.id (λ h. cc h) ∙ w.stage;
-          passed = subst (λ (ops : List Op). AllPassed d ops (revno ∷ [])) (sym one)
+          passed = subst (λ (ops : List Op). AllPassed (look d) ops (revno ∷ [])) (sym one)
               (update_passes_alone c w.sound txn.id (stored txn state.Applying (Some nonce) (Some (revno ∷ []))) op revno update applies one nonce refl, tt);
         };
       }
@@ -126,10 +126,10 @@ module _ (c : Content) (txn : Waiting) where
   pub finish_quietly : IsWorth c txn stage.Finish → IsQuiet c (edited c (name.Record txn.id) (edit.Move state.Applying state.Applied None None))
   finish_quietly w = close_quiet c txn.id w.sound (λ rec revnos there from numbers. passed (same_some _ _ _ w.stage.there there) numbers)
     where
-      passed : {rec : Record} {revnos : List ℤ} → rec ≡ stored txn state.Applying (Some w.stage.nonce) (Some (w.stage.revno ∷ [])) → rec.revnos ≡ Some revnos → AllPassed c rec.ops revnos
+      passed : {rec : Record} {revnos : List ℤ} → rec ≡ stored txn state.Applying (Some w.stage.nonce) (Some (w.stage.revno ∷ [])) → rec.revnos ≡ Some revnos → AllPassed (look c) rec.ops revnos
       passed {rec} {revnos} same numbers =
-          subst (λ (r : Record). AllPassed c r.ops revnos) (sym same)
-          (subst (AllPassed c txn.ops) (same_some _ _ _ numbers (ap (λ (r : Record). r.revnos) same)) w.stage.passed)
+          subst (λ (r : Record). AllPassed (look c) r.ops revnos) (sym same)
+          (subst (AllPassed (look c) txn.ops) (same_some _ _ _ numbers (ap (λ (r : Record). r.revnos) same)) w.stage.passed)
 
   pub finish_worth : IsWorth c txn stage.Finish → IsWorth (edited c (name.Record txn.id) (edit.Move state.Applying state.Applied None None)) txn (stage.Settled outcome.Applied)
   finish_worth w =

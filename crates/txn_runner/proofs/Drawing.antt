@@ -14,11 +14,11 @@ use Rattle.store_trait.specs.declared.cell.Cell.{Cell}
 use Rattle.store_trait.specs.declared.cell.Cell.TheVariants as cell
 use Rattle.store_trait.specs.declared.edit.Edit.TheVariants as edit
 use Rattle.store_trait.specs.declared.name.Name.TheVariants as name
-use Rattle.store_laws.proofs.AfterEdits.{record_elsewhere, nonce_edit_queues}
-use Rattle.store_laws.proofs.AmongSettled.{alone_same}
-use Rattle.store_laws.proofs.DocEdits.{draw_quiet}
-use Rattle.store_laws.proofs.Local.{edited_there}
-use Rattle.store_laws.proofs.PlainEdits.{plain_nonce}
+use Rattle.store_laws.proofs.cells.AfterEdits.{record_elsewhere, nonce_edit_queues}
+use Rattle.store_laws.proofs.views.AmongSettled.{alone_same}
+use Rattle.store_laws.proofs.steps.DocEdits.{draw_quiet}
+use Rattle.store_laws.proofs.cells.Local.{edited_there}
+use Rattle.store_laws.proofs.steps.PlainEdits.{plain_nonce}
 use Rattle.txn_runner.proofs.Beside.{nonce_others, docs_stay}
 use Rattle.txn_runner.specs.Causes.{drawn_of}
 use Rattle.txn_runner.specs.Settling.{IsWorth, MayStop}

@@ -18,10 +18,10 @@ use Rattle.store_trait.specs.declared.cell.DocCell.{DocCell}
 use Rattle.store_trait.specs.declared.name.Name.TheVariants as name
 use Rattle.store_laws.specs.Chains.{IsChainFrom}
 use Rattle.store_laws.specs.Holding.{body_in}
-use Rattle.store_laws.proofs.AmongSettled.{alone_ready}
-use Rattle.store_laws.proofs.NumberAfter.{after_rises}
-use Rattle.store_laws.proofs.OneOperation.{tests_one, chain_one}
-use Rattle.store_laws.proofs.Owners.{doc_held_alone}
+use Rattle.store_laws.proofs.views.AmongSettled.{alone_ready}
+use Rattle.store_laws.proofs.chains.NumberAfter.{after_rises}
+use Rattle.store_laws.proofs.meanings.OneOperation.{tests_one, chain_one}
+use Rattle.store_laws.proofs.cells.Owners.{doc_held_alone}
 use Rattle.txn_runner.specs.Causes.{IsOfStore}
 use Rattle.txn_runner.specs.Settling.{stored, IsWorth, MayStop, last_revno}
 use Rattle.txn_runner.specs.declared.error.StepError.{StepError}

@@ -14,10 +14,10 @@ use Rattle.store_trait.specs.declared.edit.Edit.{Edit}
 use Rattle.store_trait.specs.declared.edit.Edit.TheVariants as edit
 use Rattle.store_trait.specs.declared.name.Name.{Name}
 use Rattle.store_trait.specs.declared.name.Name.TheVariants as name
-use Rattle.store_laws.proofs.AfterEdits.{doc_elsewhere, counter_elsewhere}
-use Rattle.store_laws.proofs.Equals.{same_key_or_not}
-use Rattle.store_laws.proofs.Hits.{add_hit, update_hit, draw_hit}
-use Rattle.store_laws.proofs.Misses.{miss_leaves}
+use Rattle.store_laws.proofs.cells.AfterEdits.{doc_elsewhere, counter_elsewhere}
+use Rattle.store_laws.proofs.views.Equals.{same_key_or_not}
+use Rattle.store_laws.proofs.cells.Hits.{add_hit, update_hit, draw_hit}
+use Rattle.store_laws.proofs.cells.Misses.{miss_leaves}
 use Rattle.txn_runner.specs.Numbers.{Uses, number_at, size_of, nonces_left, numbers_left}
 use Rattle.txn_runner.specs.Stages.{steps_left}
 use Rattle.txn_runner.specs.declared.stage.Stage.{Stage}

@@ -20,7 +20,7 @@ use Rattle.store_trait.specs.declared.cell.Cell.TheVariants as cell
 use Rattle.store_trait.specs.declared.cell.DocCell.{DocCell}
 use Rattle.store_trait.specs.declared.edit.Edit.TheVariants as edit
 use Rattle.store_trait.specs.declared.name.Name.TheVariants as name
-use Rattle.store_laws.proofs.Hits.{move_hit, move_must}
+use Rattle.store_laws.proofs.cells.Hits.{move_hit, move_must}
 use Rattle.txn_runner.specs.Settling.{stored, IsThere, HasDocuments}
 use Rattle.txn_runner.specs.Store.{has_document}
 use Rattle.txn_runner.specs.declared.waiting.Waiting.{Waiting}

@@ -13,13 +13,13 @@ use Rattle.store_laws.specs.Steps.{IsQuiet}
 use Rattle.store_laws.specs.View.{look, valid_nonce, IsOn}
 use Rattle.store_trait.specs.declared.edit.Edit.TheVariants as edit
 use Rattle.store_trait.specs.declared.name.Name.TheVariants as name
-use Rattle.store_laws.proofs.AfterEdits.{record_elsewhere, counter_elsewhere, record_edit_queues, add_comes, added_waits}
-use Rattle.store_laws.proofs.AmongSettled.{alone_same, alone_comes}
-use Rattle.store_laws.proofs.DocEdits.{add_quiet}
-use Rattle.store_laws.proofs.Hits.{add_hit, add_must}
-use Rattle.store_laws.proofs.Nonces.{preparing_none}
-use Rattle.store_laws.proofs.PlainEdits.{plain_record, plain_add}
-use Rattle.store_laws.proofs.RecordEdits.{prepare_quiet}
+use Rattle.store_laws.proofs.cells.AfterEdits.{record_elsewhere, counter_elsewhere, record_edit_queues, add_comes, added_waits}
+use Rattle.store_laws.proofs.views.AmongSettled.{alone_same, alone_comes}
+use Rattle.store_laws.proofs.steps.DocEdits.{add_quiet}
+use Rattle.store_laws.proofs.cells.Hits.{add_hit, add_must}
+use Rattle.store_laws.proofs.steps.Nonces.{preparing_none}
+use Rattle.store_laws.proofs.steps.PlainEdits.{plain_record, plain_add}
+use Rattle.store_laws.proofs.steps.RecordEdits.{prepare_quiet}
 use Rattle.txn_runner.proofs.Beside.{record_others, add_others, docs_stay}
 use Rattle.txn_runner.specs.Settling.{stored, IsWorth}
 use Rattle.txn_runner.specs.declared.stage.Stage.TheVariants as stage

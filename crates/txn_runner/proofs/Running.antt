@@ -1,5 +1,5 @@
 -- How a run goes on with the calls of a runner, and with calls that only read.
-use Rattle.std.proofs.Common.{◌≡◌, ℕ, zero, suc, ◌+◌, ◌-◌, ◌≤◌, List, [], ◌∷◌, ◌++◌, ◌⊎◌, inl, inr, sym, ap, ◌∙◌, subst, arith}
+use Rattle.std.proofs.Common.{◌≡◌, ℕ, zero, suc, ◌+◌, ◌-◌, ◌≤◌, List, [], ◌∷◌, ◌++◌, ◌⊎◌, inl, inr, sym, ap, ◌∙◌, refl, subst, arith}
 use Rattle.std.proofs.lemmas.List.{append-nil}
 use Rattle.txn_key.specs.Documents.{Docs}
 use Rattle.txn_record.specs.declared.entry.Entry.{Entry}
@@ -10,19 +10,20 @@ use Rattle.store_laws.specs.Decisions.{decided_by, entry_at}
 use Rattle.store_laws.specs.Meaning.{meaning}
 use Rattle.store_laws.specs.Soundness.{IsSound}
 use Rattle.store_laws.specs.Steps.{IsQuiet, Applies, Aborts}
-use Rattle.store_laws.proofs.Misses.{quiet_itself}
-use Rattle.store_laws.proofs.TrailGrows.{trail_opens, trail_more, trail_same}
-use Rattle.store_laws.specs.Trail.{IsCall, IsTrail, Quiet, Applying, Aborting}
+use Rattle.store_laws.proofs.cells.Misses.{quiet_itself}
+use Rattle.store_laws.proofs.trails.TrailGrows.{decisions-more, decisions-same, trail_opens, trail_more, trail_same}
+use Rattle.store_laws.specs.Trail.{IsCall, Quiet, Applying, Aborting}
 use Rattle.txn_runner.specs.Running.{HasRun}
 
 pub run_opens : (trail : ℕ → Content) (mark : ℕ) → IsSound (trail mark) → HasRun trail mark mark (meaning (trail mark)) []
-run_opens trail mark sound = record { made = 0; counted = omega arith; told = trail_opens trail mark sound }
+run_opens trail mark sound = record { made = 0; counted = omega arith; told = trail_opens trail mark sound; order_is = refl }
 
 pub run_same : (p q : ℕ → Content) (mark n : ℕ) (base : Docs) (order : List Entry) → ((k : ℕ) → k ≤ n → q k ≡ p k) → HasRun p mark n base order → HasRun q mark n base order
 run_same p q mark n base order same h = record {
   made = h.made;
   counted = h.counted;
-  told = trail_same p q mark h.made base order (λ k le. same k (omega (arith, h.counted))) h.told;
+  told = trail_same p q mark h.made base (λ k le. same k (omega (arith, h.counted))) h.told;
+  order_is = h.order_is ∙ sym (decisions-same p q mark h.made (λ k le. same k (omega (arith, h.counted))));
 }
 
 -- one call more, at its place
@@ -43,7 +44,8 @@ module _ (q : ℕ → Content) (mark n : ℕ) (base : Docs) (order : List Entry)
   grown added one adds = record {
     made = h.made + 1;
     counted = omega (arith, h.counted);
-    told = subst (λ (l : List Entry). IsTrail q mark (h.made + 1) base (order ++ l)) (seen ∙ adds (mark + h.made + 1) at) (trail_more q mark h.made base order h.told (call one));
+    told = trail_more q mark h.made base h.told (call one);
+    order_is = (λ i. h.order_is i ++ (sym (seen ∙ adds (mark + h.made + 1) at) i)) ∙ sym (decisions-more q mark h.made);
   }
     where
       seen : decided_by (q (mark + h.made)) (q (mark + h.made + 1)) (mark + h.made + 1) ≡ decided_by c d (mark + h.made + 1)

@@ -14,11 +14,11 @@ use Rattle.store_trait.specs.declared.cell.Cell.{Cell}
 use Rattle.store_trait.specs.declared.cell.Cell.TheVariants as cell
 use Rattle.store_trait.specs.declared.edit.Edit.TheVariants as edit
 use Rattle.store_trait.specs.declared.name.Name.TheVariants as name
-use Rattle.store_laws.proofs.AfterEdits.{record_edit_queues}
-use Rattle.store_laws.proofs.AmongSettled.{rest_same}
-use Rattle.store_laws.proofs.Hits.{insert_hit, insert_must}
-use Rattle.store_laws.proofs.PlainEdits.{plain_record}
-use Rattle.store_laws.proofs.RecordEdits.{insert_quiet}
+use Rattle.store_laws.proofs.cells.AfterEdits.{record_edit_queues}
+use Rattle.store_laws.proofs.views.AmongSettled.{rest_same}
+use Rattle.store_laws.proofs.cells.Hits.{insert_hit, insert_must}
+use Rattle.store_laws.proofs.steps.PlainEdits.{plain_record}
+use Rattle.store_laws.proofs.steps.RecordEdits.{insert_quiet}
 use Rattle.txn_runner.specs.Calm.{IsCalm}
 use Rattle.txn_runner.specs.Settling.{IsSubmitted, preparing_record}
 use Rattle.txn_runner.specs.declared.waiting.Waiting.{Waiting}

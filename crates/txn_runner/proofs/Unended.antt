@@ -7,7 +7,7 @@ use Rattle.store_trait.specs.Edits.{edited}
 use Rattle.store_laws.specs.View.{record_at}
 use Rattle.store_trait.specs.declared.edit.Edit.TheVariants as edit
 use Rattle.store_trait.specs.declared.name.Name.TheVariants as name
-use Rattle.store_laws.proofs.AfterEdits.{record_elsewhere}
+use Rattle.store_laws.proofs.cells.AfterEdits.{record_elsewhere}
 use Rattle.txn_runner.specs.Settling.{IsWorth, is_end, is_ended, has_ended}
 use Rattle.txn_runner.specs.Stages.{steps_left}
 use Rattle.txn_runner.specs.declared.stage.Stage.{Stage}

@@ -13,8 +13,8 @@ use Rattle.store_trait.specs.Contents.{Content}
 use Rattle.store_laws.specs.Decisions.{entry_at}
 use Rattle.store_laws.specs.Soundness.{IsSound}
 use Rattle.store_laws.specs.Steps.{IsQuiet, Applies, Aborts}
-use Rattle.store_laws.proofs.Chained.{step_then}
-use Rattle.store_laws.proofs.Misses.{quiet_itself}
+use Rattle.store_laws.proofs.steps.Chained.{step_then}
+use Rattle.store_laws.proofs.cells.Misses.{quiet_itself}
 use Rattle.txn_runner.specs.Causes.{AnsweredEdit, IsMissed, IsOfStore}
 use Rattle.store_trait.specs.Calls.{Edits}
 use Rattle.store_trait.specs.declared.edit.Edited.{Edited}

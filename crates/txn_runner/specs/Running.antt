@@ -3,6 +3,7 @@ use Rattle.std.specs.Prelude.{◌≡◌, ◌≤◌, ℕ, ◌+◌, List}
 use Rattle.txn_key.specs.Documents.{Docs}
 use Rattle.txn_record.specs.declared.entry.Entry.{Entry}
 use Rattle.store_trait.specs.Contents.{Content}
+use Rattle.store_laws.specs.Decisions.{decisions}
 use Rattle.store_laws.specs.Trail.{IsTrail}
 use Rattle.store_trait.specs.declared.store.Store.{Ghosts}
 
@@ -10,7 +11,8 @@ use Rattle.store_trait.specs.declared.store.Store.{Ghosts}
 pub record HasRun (trail : ℕ → Content) (mark end : ℕ) (base : Docs) (order : List Entry) : Type 0 where
   pub made : ℕ
   pub counted : end ≡ mark + made
-  pub told : IsTrail trail mark made base order
+  pub told : IsTrail trail mark made base
+  pub order_is : order ≡ decisions trail mark made
 
 -- Calls on a store with which any run goes on, to the later order.
 abbrev pub RunGoesOn : {S : Type 0} → Ghosts S → S → S → List Entry → List Entry → Type 0

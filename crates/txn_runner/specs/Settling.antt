@@ -89,7 +89,7 @@ pub record IsDone (c : Content) (txn : Waiting) : Type 0 where
   pub nonce : ℕ
   pub revno : ℤ
   pub there : IsThere c txn state.Applying (Some nonce) (Some (revno ∷ []))
-  pub passed : AllPassed c txn.ops (revno ∷ [])
+  pub passed : AllPassed (look c) txn.ops (revno ∷ [])
 
 -- it is to be aborted
 pub record IsGivenUp (c : Content) (txn : Waiting) : Type 0 where

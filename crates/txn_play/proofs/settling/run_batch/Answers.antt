@@ -3,7 +3,7 @@ use Rattle.std.proofs.Common.{[], refl, sym, ap, ◌∙◌}
 use Rattle.store_laws.specs.Meaning.{meaning}
 use Rattle.txn_play.proofs.BatchRuns.{if_ok, batch_runs, batch_done, batch_left}
 use Rattle.txn_play.proofs.OnlyReading.{runs_only_read}
-use Rattle.store_laws.proofs.Resting.{meaning-rest}
+use Rattle.store_laws.proofs.meanings.Resting.{meaning-rest}
 use Rattle.txn_play.proofs.Causing.{run_unspent}
 use Rattle.txn_play.proofs.settling.run_batch.Goals as goal
 

@@ -1,5 +1,5 @@
 use Rattle.std.proofs.Common.{true, refl, sym, ap, ◌∙◌}
-use Rattle.store_laws.proofs.Resting.{meaning-rest}
+use Rattle.store_laws.proofs.meanings.Resting.{meaning-rest}
 use Rattle.txn_play.specs.declared.answer.Answer.TheVariants.{Documents}
 use Rattle.txn_play.proofs.Sessions.{reading_runs, refused_reading, showing_stands}
 use Rattle.txn_play.proofs.session.Session.show.Goals as goal
