@@ -53,7 +53,7 @@ left_by_more store a b old new w (stop.Refused refusal.NotBuilt) may does h = h
 left_by_more store a b old new w (stop.Refused refusal.Store) may does h = (left_more a.may_run b.may_run old.batch (store.trail new.store) (holding store old) (holding store new) refusal.Store may h.0, h.1)
 left_by_more store a b old new w (stop.Refused refusal.OutOfMemory) may does h = (
   ⊎_elim (λ l. inl (left_more a.may_run b.may_run old.batch (store.trail new.store) (holding store old) (holding store new) refusal.OutOfMemory may l))
-    (λ d. inr (record { answer = d.answer; did = does (at store old) (at store new) d.answer d.did })) h.0,
+      (λ d. inr (record { answer = d.answer; did = does (at store old) (at store new) d.answer d.did })) h.0,
   h.1,
 )
 left_by_more store a b old new w (stop.Refused (refusal.Spent e)) may does h = (left_more a.may_run b.may_run old.batch (store.trail new.store) (holding store old) (holding store new) (refusal.Spent e) may h.0, h.1)

@@ -63,7 +63,12 @@ pub fn place_document<S: Store>(
 }
 
 /// Whether a transaction may wait: its id has no record, and the documents of its keys are there.
-pub fn may_wait<S: Store>(alloc: Global, store: &mut S, id: TxnId, ops: &Ops) -> Result<bool, Refusal>
+pub fn may_wait<S: Store>(
+    alloc: Global,
+    store: &mut S,
+    id: TxnId,
+    ops: &Ops,
+) -> Result<bool, Refusal>
     requires built { is_built ops.now ≡ true }
     ensures answer { IsTrue S.tells → IfOk result (λ may. may ≡ (not (has_record (S.content store.old) id)
         && list_all (λ op. has_document (S.content store.old) op.key) ops.now)) }

@@ -36,7 +36,7 @@ pub fn run_batch<S: Store>(
     ensures runs { IsTrue S.tells → RunsGoOn (S.trail store.new) runs.new.items (S.calls store.new) }
     ensures done { IsTrue S.tells → IfOk result
         (λ states. HasRunBatch (S.content store.old) (S.content store.new) batch.now
-            runs.old.items runs.new.items states) }
+        runs.old.items runs.new.items states) }
     ensures calm { IsTrue S.tells → OnOk result (IsCalm (S.content store.new)) }
     ensures left { IsTrue S.tells → IfErr result (HasLeft true batch.now (S.trail store.new)
         (record { content = S.content store.old; runs = runs.old.items })
