@@ -1,16 +1,23 @@
--- How a call ended: what was done of a script, what the store holds, and what was written.
-use Rattle.std.specs.Prelude.{◌≡◌, ◌≤◌, ◌+◌, ◌++◌, ◌⊎◌, ℕ, Bool, List, Option, Some, None}
+-- What a call is given and what it returns: what was done of a script, what the store holds, and what was
+-- written.
+use Rattle.std.specs.Prelude.{◌≡◌, ◌≤◌, ◌+◌, ◌++◌, ◌⊎◌, ℕ, Bool, IsTrue, List, Option, Some, None, String, map, string_bytes}
+use Rattle.std.specs.Global.{Global}
 use Rattle.store_trait.specs.Contents.{Content}
 use Rattle.store_trait.specs.declared.store.Store.{Ghosts}
 use Rattle.txn_io.specs.Lines.{IsPartTaken}
+use Rattle.txn_io.specs.declared.sink.Sink as sink
+use Rattle.txn_io.specs.declared.source.Source as source
 use Rattle.txn_play.specs.Leaving.{HasLeft, Holding, Stays}
 use Rattle.txn_play.specs.Progress.{Progress, opening}
+use Rattle.txn_play.specs.Runs.{AreFaithful}
 use Rattle.txn_play.specs.declared.answer.Answer.{Answer}
 use Rattle.txn_play.specs.declared.refusal.Refusal.{Refusal}
 use Rattle.txn_play.specs.declared.run.Run.{Run}
-use Rattle.txn_cli.specs.Faults.{NoneSpent, refusal_in}
-use Rattle.txn_cli.specs.Output.{Writing, Wrote, WroteOrFailed, WrotePart, answer_text, answers_text, fault_text}
+use Rattle.txn_cli.specs.Faults.{Circumstances, IsCaused, NoneSpent, circumstances, counts, refusal_in}
+use Rattle.txn_cli.specs.Output.{Writing, Wrote, WroteOrFailed, WrotePart, answer_text, answers_text, fault_text, writing}
 use Rattle.txn_cli.specs.Script.{DoesNext, IsPlayed, PlaysTo, Reached, Refuses, after_lines, next_may_run, next_of}
+use Rattle.txn_cli.specs.Words.{is_grammar}
+use Rattle.txn_cli.specs.declared.done.Done.{Done}
 use Rattle.txn_cli.specs.declared.fault.Fault.{Fault}
 use Rattle.txn_cli.specs.declared.fault.Fault.TheVariants as fault
 
@@ -147,3 +154,54 @@ pub record HasStopped (taken : Taken) (start : Progress) (end : Held) (w : Writi
   pub later : reached.last.calls ≤ end.calls
   pub unspent : NoneSpent why
   pub stops : StopsWith taken reached end w why
+
+-- ---- the whole call
+
+-- what a call is given
+pub record Given (S I O : Type 0) : Type 0 where
+  pub words : List (String Global)
+  pub store : S
+  pub input : I
+  pub output : O
+
+abbrev pub given : {S I O : Type 0} → List (String Global) → S → I → O → Given S I O
+given words store input output =
+    record { words = words; store = store; input = input; output = output }
+
+-- what it gives back
+pub record Returned (S I O : Type 0) : Type 0 where
+  pub store : S
+  pub runs : List Run
+  pub input : I
+  pub output : O
+
+abbrev pub returned : {S I O : Type 0} → Done S → I → O → Returned S I O
+returned done input output =
+    record { store = done.store; runs = done.runs.items; input = input; output = output }
+
+-- over a store that tells, each Run is faithful
+abbrev pub HasFaithfulRuns : {S : Type 0} → Ghosts S → Done S → Type 0
+HasFaithfulRuns store done =
+    IsTrue store.tells → AreFaithful (store.trail done.store) done.runs.items (store.calls done.store)
+
+-- by what a refusal of it is judged
+abbrev pub judged : {S I O : Type 0} → source.Ghosts I → sink.Ghosts O → Given S I O → Returned S I O
+    → Circumstances S
+judged source sink old new = circumstances (is_grammar (map string_bytes old.words)) old.store new.store
+    (counts (source.faults old.input) (source.faults new.input))
+    (counts (sink.faults old.output) (sink.faults new.output))
+
+-- Over a source and a store that tell: every line was done, and what the lines print was written.
+abbrev pub PlayedAll : {S I O : Type 0} → Ghosts S → source.Ghosts I → sink.Ghosts O → Given S I O
+    → Returned S I O → Type 0
+PlayedAll store source sink old new = IsTrue source.tells → IsTrue store.tells →
+    HasPlayed (source.rest old.input) (start store old.store) (held store new.store new.runs)
+    (writing sink old.output new.output)
+
+-- Over such ones: some first lines were done, and the call ended with a refusal.
+abbrev pub PlayedPart : {S I O : Type 0} → Ghosts S → source.Ghosts I → sink.Ghosts O → Given S I O
+    → Returned S I O → Fault → Type 0
+PlayedPart store source sink old new why = IsTrue source.tells → IsTrue store.tells →
+    HasRefused (IsCaused store (judged source sink old new))
+    (taken (source.rest old.input) (source.rest new.input)) (start store old.store)
+    (held store new.store new.runs) (writing sink old.output new.output) why

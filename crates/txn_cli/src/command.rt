@@ -3,13 +3,13 @@
 ghost use Rattle.std.specs.Prelude.{◌≡◌, ◌≢◌, ◌≤◌, ◌⊎◌, [], Err, true, false, IsTrue, OnOk, IfErr, IfSome, IfNone, map, string_bytes, if◌then◌else◌};
 ghost use Rattle.std.specs.List.{list_any};
 ghost use Rattle.store_trait.specs.Stores.{CallsGoOn};
-ghost use Rattle.txn_cli.specs.Call.{HasPlayed, HasRefused, HasStopped, held, start, taken};
+ghost use Rattle.txn_cli.specs.Call.{HasFaithfulRuns, HasPlayed, HasStopped, PlayedAll, PlayedPart, given, held, judged, returned, start, taken};
 ghost use Rattle.txn_cli.specs.Faults.{IsCaused, NothingFailed, circumstances, counts, fault_of_line, status_of, OrShort};
 ghost use Rattle.txn_cli.specs.Outcomes.{has_aborted, is_aborted};
 ghost use Rattle.txn_cli.specs.Output.{writing};
 ghost use Rattle.txn_cli.specs.Script.{IsValid};
 ghost use Rattle.txn_cli.specs.Words.{is_grammar};
-ghost use Rattle.txn_play.specs.Runs.{AreFaithful, RunsGoOn};
+ghost use Rattle.txn_play.specs.Runs.{RunsGoOn};
 ghost use Rattle.txn_play.specs.Sessions.{IsNew};
 
 use crate::done::Done;
@@ -37,21 +37,16 @@ pub fn command<S: Store, I: Source, O: Sink>(
 ) -> Done<S>
     // However the call ended, each Run is faithful up to the mark of the next, or to the last call: at
     // every place of the trail the store is sound and means the Run's base after the decisions so far.
-    ensures runs { IsTrue S.tells →
-        AreFaithful (S.trail result.store) result.runs.items (S.calls result.store) }
+    ensures runs { HasFaithfulRuns S.Store result }
 
     // Over a source and a store that tell: where no fault came, each line was read and done, and what all
     // print was written.
-    ensures played { IsTrue I.tells → IsTrue S.tells → IfNone result.fault
-        (HasPlayed (I.rest input.old) (start S.Store store) (held S.Store result.store result.runs.items)
-        (writing O.Sink output.old output.new)) }
+    ensures played { IfNone result.fault (PlayedAll S.Store I.Source O.Sink
+        (given words.now store input.old output.old) (returned result input.new output.new)) }
 
     // Any refusal says which first lines were done, and what it leaves and writes behind them.
-    ensures refused { IsTrue I.tells → IsTrue S.tells → IfSome result.fault
-        (HasRefused (IsCaused S.Store (circumstances (is_grammar (map string_bytes words.now)) store result.store
-        (counts (I.faults input.old) (I.faults input.new)) (counts (O.faults output.old) (O.faults output.new))))
-        (taken (I.rest input.old) (I.rest input.new)) (start S.Store store)
-        (held S.Store result.store result.runs.items) (writing O.Sink output.old output.new)) }
+    ensures refused { IfSome result.fault (PlayedPart S.Store I.Source O.Sink
+        (given words.now store input.old output.old) (returned result input.new output.new)) }
 
     // 1 says that some transaction was aborted; else the fault has the status.
     ensures ended { IfNone result.fault
@@ -64,16 +59,15 @@ pub fn command<S: Store, I: Source, O: Sink>(
     ensures usage { is_grammar (map string_bytes words.now) ≡ false →
         ((result.status ≡ 2) ⊎ (result.status ≡ 7) ⊎ (result.status ≡ 8))
         × (result.store ≡ store) × (input.new ≡ input.old) × (result.runs.items ≡ []) }
-    ensures caused { IfSome result.fault
-        (IsCaused S.Store (circumstances (is_grammar (map string_bytes words.now)) store result.store
-        (counts (I.faults input.old) (I.faults input.new)) (counts (O.faults output.old) (O.faults output.new)))) }
+    ensures caused { IfSome result.fault (IsCaused S.Store (judged I.Source O.Sink
+        (given words.now store input.old output.old) (returned result input.new output.new))) }
 
     // Where the words are in the grammar, no line is refused and nothing failed, every line is done, unless
     // memory is wanting: a script has fewer lines than there are nonces, or numbers for a document.
     ensures complete { IsTrue I.tells → IsTrue S.tells → IsTrue (is_grammar (map string_bytes words.now)) →
         IsValid (I.rest input.old) (S.trail result.store) (start S.Store store) →
-        NothingFailed S.Store (circumstances (is_grammar (map string_bytes words.now)) store result.store
-        (counts (I.faults input.old) (I.faults input.new)) (counts (O.faults output.old) (O.faults output.new))) →
+        NothingFailed S.Store (judged I.Source O.Sink
+        (given words.now store input.old output.old) (returned result input.new output.new)) →
         (result.fault ≡ None) ⊎ (result.fault ≡ Some Fault.OutOfMemory) }
     ensures kept { CallsGoOn S.Store store result.store }
 {
@@ -111,7 +105,7 @@ pub fn command<S: Store, I: Source, O: Sink>(
     }
 }
 
-/// Plays the input, where the words are in the grammar.
+/// Plays the input line by line, to its end, where the words are in the grammar.
 fn run<S: Store, I: Source, O: Sink>(
     alloc: Global,
     words: &[String],
@@ -141,7 +135,28 @@ fn run<S: Store, I: Source, O: Sink>(
     if !is_run(words) {
         return Err(Fault::Words);
     }
-    play(alloc, session, input, output)
+    match is_empty(alloc, &mut session.store) {
+        Ok(answer) => session.was_empty = answer,
+        Err(refusal) => return Err(Stop::Refused(refusal).at_line(alloc, 1)),
+    }
+    let mut lines = Lines::new();
+    for done in 0..u64::MAX - 1 {
+        let number = done + 1;
+        match lines.next(alloc, input) {
+            Ok(Some(line)) => match play_line(alloc, session, output, line.as_slice()) {
+                Ok(()) => {}
+                Err(stop) => return Err(stop.at_line(alloc, number)),
+            },
+            Ok(None) => {
+                return match run_waiting(alloc, session, output) {
+                    Ok(()) => Ok(()),
+                    Err(stop) => Err(stop.at_line(alloc, number)),
+                };
+            }
+            Err(fault) => return Err(line_fault(alloc, number, fault)),
+        }
+    }
+    unreachable!()
 }
 
 /// The words are in the grammar of this stage: the one word `run`.
@@ -184,53 +199,6 @@ fn is_aborted(entry: &Entry) -> bool
         Outcome::Aborted => true,
         Outcome::Applied => false,
     }
-}
-
-/// Plays the input line by line, to its end.
-fn play<S: Store, I: Source, O: Sink>(
-    alloc: Global,
-    session: &mut Session<S>,
-    input: &mut I,
-    output: &mut O,
-) -> Result<(), Fault>
-    requires begins { IsNew session.old }
-    ensures words { IfErr result (λ fault. fault ≢ Fault.Words) }
-    ensures played { IsTrue I.tells → IsTrue S.tells → OnOk result
-        (HasPlayed (I.rest input.old) (start S.Store session.old.store)
-        (held S.Store session.new.store session.new.runs.items) (writing O.Sink output.old output.new)) }
-    ensures stopped { IsTrue I.tells → IsTrue S.tells → IfErr result
-        (HasStopped (taken (I.rest input.old) (I.rest input.new)) (start S.Store session.old.store)
-        (held S.Store session.new.store session.new.runs.items) (writing O.Sink output.old output.new)) }
-    ensures read { IsTrue I.tells → OnOk result (I.rest input.new ≡ []) }
-    ensures runs { IsTrue S.tells →
-        RunsGoOn (S.trail session.new.store) session.new.runs.items (S.calls session.new.store) }
-    ensures caused { IfErr result (IsCaused S.Store (circumstances true session.old.store session.new.store
-        (counts (I.faults input.old) (I.faults input.new)) (counts (O.faults output.old) (O.faults output.new)))) }
-    ensures kept { CallsGoOn S.Store session.old.store session.new.store }
-    ensures later { O.faults output.old ≤ O.faults output.new }
-{
-    match is_empty(alloc, &mut session.store) {
-        Ok(answer) => session.was_empty = answer,
-        Err(refusal) => return Err(Stop::Refused(refusal).at_line(alloc, 1)),
-    }
-    let mut lines = Lines::new();
-    for done in 0..u64::MAX - 1 {
-        let number = done + 1;
-        match lines.next(alloc, input) {
-            Ok(Some(line)) => match play_line(alloc, session, output, line.as_slice()) {
-                Ok(()) => {}
-                Err(stop) => return Err(stop.at_line(alloc, number)),
-            },
-            Ok(None) => {
-                return match run_waiting(alloc, session, output) {
-                    Ok(()) => Ok(()),
-                    Err(stop) => Err(stop.at_line(alloc, number)),
-                };
-            }
-            Err(fault) => return Err(line_fault(alloc, number, fault)),
-        }
-    }
-    unreachable!()
 }
 
 /// How a line that wasn't read ends the call: as its refusal, unless memory for the text is wanting.
