@@ -1,4 +1,3 @@
 pub mod NameOrder
-pub mod SameCells
 pub mod HitKinds
 pub mod OneCalls

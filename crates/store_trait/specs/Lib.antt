@@ -1,7 +1,6 @@
 pub mod Names
 pub mod Contents
 pub mod Cells
-pub mod Same
 pub mod Edits
 pub mod Changes
 pub mod Owners

@@ -7,4 +7,3 @@ pub mod ChainSteps
 pub mod EffectLaws
 pub mod OrderLaws
 pub mod WalkLaws
-pub mod SameRecords

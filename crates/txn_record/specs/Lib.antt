@@ -1,6 +1,5 @@
 pub mod Transactions
 pub mod States
-pub mod Same
 pub mod Effects
 pub mod Orders
 pub mod Reading
