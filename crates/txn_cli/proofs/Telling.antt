@@ -91,7 +91,7 @@ module _ (Caused : Fault → Type 0) (tells : Bool) (before now after : List ℕ
   abbrev both : Writing
   both = record { tells = tells; before = before; after = after }
 
-  module _ (taken : Taken) (reached : Reached) (end : Held)
+  module _ (taken : Taken) (reached : Reached) (end : Held) (unspent : NoneSpent why)
       (is : (told ≡ why) ⊎ (told ≡ fault.OutOfMemory) ⊎ ((told ≡ fault.Output) × rose))
       (output : why ≡ fault.Output → (told ≡ fault.Output) × Wrote last [])
       (memory : why ≡ fault.OutOfMemory → told ≡ fault.OutOfMemory)
@@ -136,7 +136,7 @@ module _ (Caused : Fault → Type 0) (tells : Bool) (before now after : List ℕ
         (ends_plain taken reached end Caused why both other full (h.0, behind (fault_text why) h.1 (subst (λ (f : Fault). Wrote last (fault_text f)) same (whole (λ e. other (sym same ∙ e)) (λ e. full (sym same ∙ e)))))))
         (λ rest. ⊎_elim
         (λ m. subst (EndsWith Caused taken reached end both) (sym m) (inl (leaves_memory taken reached end why h.0), behind_failed (fault_text fault.OutOfMemory) h.1 (short m)))
-        (λ o. subst (EndsWith Caused taken reached end both) (sym o.0) (inr (record { why = why; caused = caused other; leaves = h.0; part = behind_part (fault_text why) h.1 (cut other o.0) })))
+        (λ o. subst (EndsWith Caused taken reached end both) (sym o.0) (inr (record { why = why; caused = caused other; memory = full; unspent = unspent; leaves = h.0; part = behind_part (fault_text why) h.1 (cut other o.0) })))
         rest)
         is
       where
@@ -162,7 +162,7 @@ refuses_out Caused tells before now after rose why told taken begun end stops fa
   plays = stops.plays;
   later = stops.later;
   unspent = ⊎_elim (λ same. subst NoneSpent (sym same) stops.unspent) (λ rest. ⊎_elim (λ m. subst NoneSpent (sym m) tt) (λ o. subst NoneSpent (sym o.0) tt) rest) is;
-  ends = ends_told Caused tells before now after rose why told failed caused taken stops.reached end is output memory whole short cut stops.stops;
+  ends = ends_told Caused tells before now after rose why told failed caused taken stops.reached end stops.unspent is output memory whole short cut stops.stops;
 }
 
 -- ---- causes, as they stand once the refusal was told

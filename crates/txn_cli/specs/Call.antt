@@ -1,6 +1,6 @@
 -- What a call is given and what it returns: what was done of a script, what the store holds, and what was
 -- written.
-use Rattle.std.specs.Prelude.{◌≡◌, ◌≤◌, ◌+◌, ◌++◌, ◌⊎◌, ℕ, Bool, IsTrue, List, Option, Some, None, String, map, string_bytes}
+use Rattle.std.specs.Prelude.{◌≡◌, ◌≢◌, ◌≤◌, ◌+◌, ◌++◌, ◌⊎◌, ℕ, Bool, IsTrue, List, Option, Some, None, String, map, string_bytes}
 use Rattle.std.specs.Global.{Global}
 use Rattle.store_trait.specs.Contents.{Content}
 use Rattle.store_trait.specs.declared.store.Store.{Ghosts}
@@ -108,11 +108,14 @@ abbrev pub LeavesShort : Taken → Reached → Held → Type 0
 LeavesShort taken reached end =
     Leaves taken reached end fault.OutOfMemory ⊎ HasDoneNext taken.script reached end
 
--- Another refusal came, and the output failed before all of its last line was written.
+-- Another refusal came, not for want of memory, and the output failed before all of its last line was
+-- written.
 pub record HasCutOff (Caused : Fault → Type 0) (taken : Taken) (reached : Reached) (end : Held)
     (w : Writing) : Type 0 where
   pub why : Fault
   pub caused : Caused why
+  pub memory : why ≢ fault.OutOfMemory
+  pub unspent : NoneSpent why
   pub leaves : Leaves taken reached end why
   pub part : WrotePart w (answers_text reached.answers) (fault_text why)
 
