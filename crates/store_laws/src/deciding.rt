@@ -24,22 +24,27 @@ ghost use Rattle.store_laws.specs.Holding.{body_in};
 /// there, so its tests can be made on the cells.
 pub fn testing_a_ready_record()
     ensures { (c : Content) (id : TxnId) (rec : Record) (key : Key) →
-        IsSound c → record_at c id ≡ Some rec → rec.state ≡ state.Prepared → IsReady (look c) id → IsOn key rec.ops →
+        IsSound c → record_at c id ≡ Some rec → rec.state ≡ state.Prepared → IsReady (look c) id →
+        IsOn key rec.ops →
         get (meaning c) key ≡ body_in ((look c).held_at key) }
 {}
 
 /// The tests of a ready prepared record of one operation, from what the owner of its key holds.
 pub fn testing_one_operation()
     ensures { (c : Content) (id : TxnId) (rec : Record) (op : Op) →
-        IsSound c → record_at c id ≡ Some rec → rec.state ≡ state.Prepared → IsReady (look c) id → rec.ops ≡ op ∷ [] →
-        tests rec.ops (meaning c) ≡ (assertion_holds op.assert (body_in ((look c).held_at op.key)) && change_fits op.change (body_in ((look c).held_at op.key))) }
+        IsSound c → record_at c id ≡ Some rec → rec.state ≡ state.Prepared → IsReady (look c) id →
+        rec.ops ≡ op ∷ [] →
+        tests rec.ops (meaning c) ≡ (assertion_holds op.assert
+        (body_in ((look c).held_at op.key)) &&
+        change_fits op.change (body_in ((look c).held_at op.key))) }
 {}
 
 /// The chain of one operation is the number of its key's owner, where the number that it leaves is
 /// within the limits.
 pub fn beginning_a_chain()
     ensures { (c : Content) (op : Op) →
-        IsSound c → is_within (number_after op.change (held_number ((look c).held_at op.key))) ≡ true →
+        IsSound c → is_within (number_after op.change (held_number ((look c).held_at op.key))) ≡
+        true →
         IsChainFrom (look c) (op ∷ []) (held_number ((look c).held_at op.key) ∷ []) }
 {}
 
@@ -49,7 +54,8 @@ pub fn deciding_to_apply()
     ensures { (c : Content) (id : TxnId) (rec : Record) (revnos : List ℤ) →
         IsSound c → record_at c id ≡ Some rec → rec.state ≡ state.Prepared → IsReady (look c) id →
         IsChainFrom (look c) rec.ops revnos → tests rec.ops (meaning c) ≡ true →
-        Applies c (edited c (name.Record id) (edit.Move state.Prepared state.Applying None (Some revnos))) (moved state.Applying None (Some revnos) rec) }
+        Applies c (edited c (name.Record id) (edit.Move state.Prepared state.Applying None
+        (Some revnos))) (moved state.Applying None (Some revnos) rec) }
 {}
 
 /// A ready prepared record of which a test fails is to be aborted. This decides its transaction alone,
@@ -58,5 +64,6 @@ pub fn deciding_to_abort()
     ensures { (c : Content) (id : TxnId) (rec : Record) →
         IsSound c → record_at c id ≡ Some rec → rec.state ≡ state.Prepared → IsReady (look c) id →
         tests rec.ops (meaning c) ≡ false →
-        Aborts c (edited c (name.Record id) (edit.Move state.Prepared state.Aborting None None)) (moved state.Aborting None None rec) }
+        Aborts c (edited c (name.Record id) (edit.Move state.Prepared state.Aborting None None))
+        (moved state.Aborting None None rec) }
 {}

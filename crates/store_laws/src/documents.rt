@@ -20,5 +20,6 @@ pub fn meaning_at_rest()
 /// documents as they lie, and no other documents have the same body at each key.
 pub fn bodies_as_they_lie()
     ensures body { (c : Content) (key : Key) → IsPlain c → get (bodies c) key ≡ body_at c key }
-    ensures only { (c : Content) (docs : Docs) → IsPlain c → ((key : Key) → get docs key ≡ body_at c key) → docs ≡ bodies c }
+    ensures only { (c : Content) (docs : Docs) → IsPlain c →
+        ((key : Key) → get docs key ≡ body_at c key) → docs ≡ bodies c }
 {}

@@ -23,10 +23,13 @@ pub fn findings_last()
     ensures found { (c d : Content) (key : Key) (x : Token) (id : TxnId) → IsSound c → Later c d →
         IsFoundAt (look c) key x id → IsFoundAt (look d) key x id }
     ensures edge { (view : View) (key : Key) (x : Token) (id : TxnId) → IsFoundAt view key x id →
-        valid_nonce view x.id ≡ Some x.nonce → x.id ≢ id → Precedes view x.id id ⊎ IsClean view x.id }
+        valid_nonce view x.id ≡ Some x.nonce → x.id ≢ id → Precedes view x.id id ⊎
+        IsClean view x.id }
     ensures listed { (c d : Content) (key : Key) (id : TxnId) (found : List Token) → Later c d →
-        was_prepared (look c) id ≡ true → IsListed (look c) key id found → IsListed (look d) key id found }
-    ensures missing { (c : Content) (key : Key) (id : TxnId) (nonce : ℕ) → IsSound c → HasKey (look c) id key →
+        was_prepared (look c) id ≡ true → IsListed (look c) key id found →
+        IsListed (look d) key id found }
+    ensures missing { (c : Content) (key : Key) (id : TxnId) (nonce : ℕ) → IsSound c →
+        HasKey (look c) id key →
         valid_nonce (look c) id ≡ Some nonce → (In (token id nonce) ((look c).queue_at key) → ⊥) →
         IsListed (look c) key id [] × (settled (look c) id ≡ true) }
 {}
@@ -39,7 +42,8 @@ pub fn gatherings_last()
     ensures followed { (c d : Content) (g : Graph) (x : Token) (id : TxnId) → Later c d →
         IsFollowed (look c) g x id → IsFollowed (look d) g x id }
     ensures scanned { (c d : Content) (g : Graph) (id : TxnId) (key : Key) → Later c d →
-        was_prepared (look c) id ≡ true → IsScanned (look c) g id key → IsScanned (look d) g id key }
+        was_prepared (look c) id ≡ true → IsScanned (look c) g id key →
+        IsScanned (look d) g id key }
     ensures followed_more { (view : View) (g h : Graph) (x : Token) (id : TxnId) → Grows g h →
         IsFollowed view g x id → IsFollowed view h x id }
     ensures scanned_more { (view : View) (g h : Graph) (id : TxnId) (key : Key) → Grows g h →
@@ -50,9 +54,11 @@ pub fn gatherings_last()
 /// have to be scanned.
 pub fn scanning_own_keys()
     ensures listed { (view : View) (g : Graph) (id : TxnId) (key : Key) (found : List Token) →
-        IsListed view key id found → ((x : Token) → In x found → IsFollowed view g x id) → IsScanned view g id key }
+        IsListed view key id found → ((x : Token) → In x found → IsFollowed view g x id) →
+        IsScanned view g id key }
     ensures own { (c : Content) (g : Graph) (id : TxnId) → IsSound c →
-        ((key : Key) → HasKey (look c) id key → IsScanned (look c) g id key) → (key : Key) → IsScanned (look c) g id key }
+        ((key : Key) → HasKey (look c) id key → IsScanned (look c) g id key) → (key : Key) →
+        IsScanned (look c) g id key }
 {}
 
 /// Of a gathering whose members' keys are all scanned, a member that isn't settled and is ready by the

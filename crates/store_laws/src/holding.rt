@@ -7,6 +7,8 @@ ghost use Rattle.store_laws.specs.View.{look, doc_at, stash_at, owner_queue, own
 /// The owner queue of a key is its owner's, and what is held is the owner's number, and its body where it
 /// is a document. Which cell owns is said by the two cells alone.
 pub fn owning_a_key()
-    ensures queue { (c : Content) (key : Key) → (look c).queue_at key ≡ owner_queue (doc_at c key) (stash_at c key) }
-    ensures held { (c : Content) (key : Key) → (look c).held_at key ≡ owner_held (doc_at c key) (stash_at c key) }
+    ensures queue { (c : Content) (key : Key) →
+        (look c).queue_at key ≡ owner_queue (doc_at c key) (stash_at c key) }
+    ensures held { (c : Content) (key : Key) →
+        (look c).held_at key ≡ owner_held (doc_at c key) (stash_at c key) }
 {}

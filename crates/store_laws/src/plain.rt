@@ -18,10 +18,13 @@ ghost use Rattle.store_laws.specs.Plain.{IsPlain};
 /// counter, by a token, an update, or a new document.
 pub fn staying_plain()
     ensures nothing { IsPlain empty }
-    ensures records { (c : Content) (id : TxnId) (e : Edit) → IsPlain c → IsPlain (edited c (name.Record id) e) }
+    ensures records { (c : Content) (id : TxnId) (e : Edit) → IsPlain c →
+        IsPlain (edited c (name.Record id) e) }
     ensures nonce { (c : Content) (e : Edit) → IsPlain c → IsPlain (edited c name.Nonce e) }
-    ensures tokens { (c : Content) (key : Key) (token : Token) → IsPlain c → IsPlain (edited c (name.Doc key) (edit.AddToken token)) }
-    ensures updates { (c : Content) (key : Key) (revno : ℤ) (token : Token) (update : Value) → IsPlain c →
+    ensures tokens { (c : Content) (key : Key) (token : Token) → IsPlain c →
+        IsPlain (edited c (name.Doc key) (edit.AddToken token)) }
+    ensures updates { (c : Content) (key : Key) (revno : ℤ) (token : Token) (update : Value) →
+        IsPlain c →
         IsPlain (edited c (name.Doc key) (edit.Update revno token update)) }
     ensures places { (c : Content) (key : Key) (body : Value) → IsPlain c →
         IsPlain (edited c (name.Doc key) (edit.Place (cell.Doc (new_doc body)))) }

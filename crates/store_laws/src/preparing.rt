@@ -18,6 +18,8 @@ ghost use Rattle.store_trait.specs.declared.name.Name.TheVariants as name;
 pub fn preparing_a_record()
     ensures { (c : Content) (id : TxnId) (nonce : ℕ) →
         IsSound c → nonce < counter c →
-        ((rec : Record) (key : Key) → record_at c id ≡ Some rec → rec.state ≡ state.Preparing → IsOn key rec.ops → In (token id nonce) ((look c).queue_at key)) →
-        IsQuiet c (edited c (name.Record id) (edit.Move state.Preparing state.Prepared (Some nonce) None)) }
+        ((rec : Record) (key : Key) → record_at c id ≡ Some rec → rec.state ≡ state.Preparing →
+        IsOn key rec.ops → In (token id nonce) ((look c).queue_at key)) →
+        IsQuiet c (edited c (name.Record id) (edit.Move state.Preparing state.Prepared (Some nonce)
+        None)) }
 {}

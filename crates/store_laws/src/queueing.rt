@@ -28,21 +28,28 @@ pub fn drawing_a_nonce()
 /// The nonce of a prepared record was drawn, and a preparing record has none: so no record has the nonce
 /// that is drawn next.
 pub fn nonces_are_fresh()
-    ensures below { (c : Content) (id : TxnId) (nonce : ℕ) → IsSound c → valid_nonce (look c) id ≡ Some nonce → nonce < counter c }
-    ensures preparing { (c : Content) (id : TxnId) (rec : Record) → record_at c id ≡ Some rec → rec.state ≡ state.Preparing →
+    ensures below { (c : Content) (id : TxnId) (nonce : ℕ) → IsSound c →
+        valid_nonce (look c) id ≡ Some nonce → nonce < counter c }
+    ensures preparing { (c : Content) (id : TxnId) (rec : Record) → record_at c id ≡ Some rec →
+        rec.state ≡ state.Preparing →
         valid_nonce (look c) id ≡ None }
-    ensures same { (c d : Content) (id : TxnId) → record_at d id ≡ record_at c id → valid_nonce (look d) id ≡ valid_nonce (look c) id }
+    ensures same { (c d : Content) (id : TxnId) → record_at d id ≡ record_at c id →
+        valid_nonce (look d) id ≡ valid_nonce (look c) id }
 {}
 
 /// A record comes to have a nonce only by the move that gives it. So a nonce that one runner drew is no
 /// record's until that runner gives it.
 pub fn nonces_are_given()
-    ensures moved { (c : Content) (id : TxnId) (from to : State) (nonce : Option ℕ) (revnos : Option (List ℤ)) → IsSound c →
-        NoncesCome (look c) (look (edited c (name.Record id) (edit.Move from to nonce revnos))) id nonce }
+    ensures moved { (c : Content) (id : TxnId) (from to : State) (nonce : Option ℕ)
+        (revnos : Option (List ℤ)) → IsSound c →
+        NoncesCome (look c) (look (edited c (name.Record id) (edit.Move from to nonce revnos))) id
+        nonce }
     ensures inserted { (c : Content) (id : TxnId) (rec : Record) → rec.state ≡ state.Preparing →
         NoncesStay (look c) (look (edited c (name.Record id) (edit.InsertRecord rec))) }
-    ensures docs { (c : Content) (key : Key) (e : Edit) → NoncesStay (look c) (look (edited c (name.Doc key) e)) }
-    ensures stashes { (c : Content) (key : Key) (e : Edit) → NoncesStay (look c) (look (edited c (name.Stash key) e)) }
+    ensures docs { (c : Content) (key : Key) (e : Edit) →
+        NoncesStay (look c) (look (edited c (name.Doc key) e)) }
+    ensures stashes { (c : Content) (key : Key) (e : Edit) →
+        NoncesStay (look c) (look (edited c (name.Stash key) e)) }
     ensures drawn { (c : Content) (e : Edit) → NoncesStay (look c) (look (edited c name.Nonce e)) }
 {}
 
@@ -51,7 +58,8 @@ pub fn nonces_are_given()
 /// or a stash entry is past the document.
 pub fn adding_a_token()
     ensures quiet { (c : Content) (key : Key) (token : Token) →
-        IsSound c → HasKey (look c) token.id key → token.nonce < counter c → valid_nonce (look c) token.id ≢ Some token.nonce →
+        IsSound c → HasKey (look c) token.id key → token.nonce < counter c →
+        valid_nonce (look c) token.id ≢ Some token.nonce →
         IsQuiet c (edited c (name.Doc key) (edit.AddToken token)) }
     ensures waits { (c d : Content) (key : Key) (token : Token) (added : HasAdded c d key token) →
         In token ((look d).queue_at key) ⊎ (epoch added.doc.revno < stash_epoch d key) }

@@ -17,11 +17,15 @@ ghost use Rattle.store_laws.specs.View.{look, doc_at, stash_at, valid_nonce, own
 pub fn reading_a_key()
     ensures one_moment { (first last : Content) (key : Key) → IsSound first → Since first last →
         IsMoment first last key (doc_at first key) (stash_at last key) }
-    ensures queue { (c : Content) (key : Key) (doc : Option DocCell) (stash : Option StashCell) → IsOwnedAs c key doc stash →
+    ensures queue { (c : Content) (key : Key) (doc : Option DocCell) (stash : Option StashCell) →
+        IsOwnedAs c key doc stash →
         (look c).queue_at key ≡ owner_queue doc stash }
-    ensures held { (c : Content) (key : Key) (doc : Option DocCell) (stash : Option StashCell) → IsOwnedAs c key doc stash →
+    ensures held { (c : Content) (key : Key) (doc : Option DocCell) (stash : Option StashCell) →
+        IsOwnedAs c key doc stash →
         (look c).held_at key ≡ owner_held doc stash }
-    ensures listed { (c : Content) (key : Key) (id : TxnId) (doc : Option DocCell) (stash : Option StashCell) (nonce : ℕ) (found : List Token) →
+    ensures listed { (c : Content) (key : Key) (id : TxnId) (doc : Option DocCell)
+        (stash : Option StashCell) (nonce : ℕ) (found : List Token) →
         IsOwnedAs c key doc stash → valid_nonce (look c) id ≡ Some nonce →
-        ((x : Token) → Before x (token id nonce) (owner_queue doc stash) → In x found) → IsListed (look c) key id found }
+        ((x : Token) → Before x (token id nonce) (owner_queue doc stash) → In x found) →
+        IsListed (look c) key id found }
 {}

@@ -30,7 +30,8 @@ pub fn beginning_with_nothing()
 pub fn placing_a_document()
     ensures { (c : Content) (key : Key) (body : Value) →
         IsSound c → stash_at c key ≡ None →
-        is_some (hit (edit.Place (cell.Doc (new_doc body))) (name.Doc key) (get c (name.Doc key))) ≡ true →
+        is_some (hit (edit.Place (cell.Doc (new_doc body))) (name.Doc key) (get c (name.Doc key))) ≡
+        true →
         IsPlaced c (edited c (name.Doc key) (edit.Place (cell.Doc (new_doc body)))) key body }
 {}
 

@@ -63,7 +63,8 @@ fn insert_record(
     cell: Option<&Cell>,
 ) -> Result<Changed, OutOfMemory>
     ensures { IfOk result
-        (λ changed. as_hit changed ≡ hit_insert_record rec.now name.now (option_copied cell.entry)) }
+        (λ changed. as_hit changed ≡ hit_insert_record rec.now name.now
+        (option_copied cell.entry)) }
 {
     match (name, cell) {
         (Name::Record(id), None) if same_id(id, &rec.id) => {
@@ -83,7 +84,8 @@ fn move_record(
     cell: Option<&Cell>,
 ) -> Result<Changed, OutOfMemory>
     ensures { IfOk result
-        (λ changed. as_hit changed ≡ hit_move from to nonce revnos.now name.now (option_copied cell.entry)) }
+        (λ changed. as_hit changed ≡ hit_move from to nonce revnos.now name.now
+        (option_copied cell.entry)) }
 {
     match (name, cell) {
         (Name::Record(_), Some(Cell::Record(rec))) if same_state(rec.state, from) => {
@@ -154,7 +156,8 @@ fn update_doc(
     cell: Option<&Cell>,
 ) -> Result<Changed, OutOfMemory>
     ensures { IfOk result
-        (λ changed. as_hit changed ≡ hit_update revno token.now update.now name.now (option_copied cell.entry)) }
+        (λ changed. as_hit changed ≡ hit_update revno token.now update.now name.now
+        (option_copied cell.entry)) }
 {
     match (name, cell) {
         (Name::Doc(_), Some(Cell::Doc(doc))) => updated_doc(alloc, revno, token, update, doc),

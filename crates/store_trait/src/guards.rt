@@ -61,7 +61,8 @@ fn adds_token(name: &Name, cell: Option<&Cell>) -> bool
 }
 
 fn updates(name: &Name, revno: i64, token: &Token, update: &Update, cell: Option<&Cell>) -> bool
-    ensures { result ≡ is_some (hit_update revno token.now update.now name.now (option_copied cell.entry)) }
+    ensures { result ≡ is_some (hit_update revno token.now update.now name.now
+        (option_copied cell.entry)) }
 {
     match (name, cell) {
         (Name::Doc(_), Some(Cell::Doc(doc))) => updates_doc(revno, token, update, doc),

@@ -51,7 +51,8 @@ pub trait Store {
 
     /// The cell under a name.
     fn read(&mut self, alloc: Global, name: &Name) -> Result<Option<Cell>, StoreError>
-        ensures found { IsTrue tells → IfOk result (λ found. found ≡ get (content self.old) name.now) }
+        ensures found { IsTrue tells → IfOk result (λ found.
+            found ≡ get (content self.old) name.now) }
         ensures same { IsTrue tells → content self.new ≡ content self.old }
         ensures kind { IfOk result (IsOfKind name.now) }
         ensures answered { answered self.old (Reads name.now result) self.new }
@@ -78,7 +79,8 @@ pub trait Store {
         ensures same { IsTrue tells → content self.new ≡ content self.old }
         ensures past { IfOk result (λ found. IfSome found
             (λ it. IsTrue (is_past (option_copied after.entry) it.name))) }
-        ensures kind { IfOk result (λ found. IfSome found (λ it. IsTrue (may_stand it.name it.cell))) }
+        ensures kind { IfOk result (λ found.
+            IfSome found (λ it. IsTrue (may_stand it.name it.cell))) }
         ensures answered { answered self.old (Lists (option_copied after.entry) result) self.new }
         ensures trail { IsTrue tells → Extends content trail calls self.old self.new }
         ensures counted { IsCounted calls faults self.old self.new result };

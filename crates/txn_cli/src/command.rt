@@ -64,7 +64,8 @@ pub fn command<S: Store, I: Source, O: Sink>(
 
     // Where the words are in the grammar, no line is refused and nothing failed, every line is done, unless
     // memory is wanting: a script has fewer lines than there are nonces, or numbers for a document.
-    ensures complete { IsTrue I.tells → IsTrue S.tells → IsTrue (is_grammar (map string_bytes words.now)) →
+    ensures complete { IsTrue I.tells → IsTrue S.tells →
+        IsTrue (is_grammar (map string_bytes words.now)) →
         IsValid (I.rest input.old) (S.trail result.store) (start S.Store store) →
         NothingFailed S.Store (judged I.Source O.Sink
         (given words.now store input.old output.old) (returned result input.new output.new)) →
@@ -118,10 +119,12 @@ fn run<S: Store, I: Source, O: Sink>(
         (result ≡ Err Fault.Words) × (session.new ≡ session.old) × (input.new ≡ input.old) }
     ensures played { IsTrue I.tells → IsTrue S.tells → OnOk result
         (HasPlayed (I.rest input.old) (start S.Store session.old.store)
-        (held S.Store session.new.store session.new.runs.items) (writing O.Sink output.old output.new)) }
+        (held S.Store session.new.store session.new.runs.items)
+        (writing O.Sink output.old output.new)) }
     ensures stopped { IsTrue I.tells → IsTrue S.tells → IfErr result
         (HasStopped (taken (I.rest input.old) (I.rest input.new)) (start S.Store session.old.store)
-        (held S.Store session.new.store session.new.runs.items) (writing O.Sink output.old output.new)) }
+        (held S.Store session.new.store session.new.runs.items)
+        (writing O.Sink output.old output.new)) }
     ensures read { IsTrue I.tells → OnOk result (I.rest input.new ≡ []) }
     ensures runs { IsTrue S.tells →
         RunsGoOn (S.trail session.new.store) session.new.runs.items (S.calls session.new.store) }

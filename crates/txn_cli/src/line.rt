@@ -25,12 +25,15 @@ pub fn play_line<S: Store, O: Sink>(
 ) -> Result<(), Stop>
     requires stands { Stands S.Store session.old }
     ensures done { IsTrue S.tells → OnOk result
-        (HasDoneLine S.Store line.now session.old session.new (writing O.Sink output.old output.new)) }
+        (HasDoneLine S.Store line.now session.old session.new
+        (writing O.Sink output.old output.new)) }
     ensures stopped { IsTrue S.tells → IfErr result
-        (HasStoppedLine S.Store line.now session.old session.new (writing O.Sink output.old output.new)) }
+        (HasStoppedLine S.Store line.now session.old session.new
+        (writing O.Sink output.old output.new)) }
     ensures caused { IfErr result (StopsFor S.Store session.old session.new) }
     ensures kept { IsKept S.Store session.old session.new result }
-    ensures output { FailsOnly (counts (O.faults output.old) (O.faults output.new)) result Stop.Output }
+    ensures output { FailsOnly (counts (O.faults output.old) (O.faults output.new)) result
+        Stop.Output }
 {
     match read_line(alloc, line) {
         Ok(None) => Ok(()),
@@ -50,16 +53,19 @@ fn run_first<S: Store, O: Sink>(
     statement: &Statement,
 ) -> Result<(), Stop>
     requires stands { Stands S.Store session.old }
-    ensures done { IsTrue S.tells → OnOk result (HasDone S.Store (RunsFirst (lets_run statement.now))
+    ensures done { IsTrue S.tells → OnOk result
+        (HasDone S.Store (RunsFirst (lets_run statement.now))
         session.old session.new (writing O.Sink output.old output.new)) }
-    ensures left { IsTrue S.tells → IfErr result (LeftBy S.Store (running_first (lets_run statement.now))
+    ensures left { IsTrue S.tells → IfErr result
+        (LeftBy S.Store (running_first (lets_run statement.now))
         session.old session.new (writing O.Sink output.old output.new)) }
     ensures cleared { lets_run statement.now ≡ true → OnOk result (session.new.batch ≡ []) }
     ensures refused { IfErr result
         (RefusedWhere ((lets_run statement.now ≡ true) × (session.old.was_empty ≡ false))) }
     ensures caused { IfErr result (StopsFor S.Store session.old session.new) }
     ensures kept { IsKept S.Store session.old session.new result }
-    ensures output { FailsOnly (counts (O.faults output.old) (O.faults output.new)) result Stop.Output }
+    ensures output { FailsOnly (counts (O.faults output.old) (O.faults output.new)) result
+        Stop.Output }
 {
     if lets_run(statement) {
         run_waiting(alloc, session, output)
@@ -91,7 +97,8 @@ pub fn run_waiting<S: Store, O: Sink>(
         (RefusedWhere ((session.old.was_empty ≡ false) × (session.old.batch ≢ []))) }
     ensures caused { IfErr result (StopsFor S.Store session.old session.new) }
     ensures kept { IsKept S.Store session.old session.new result }
-    ensures output { FailsOnly (counts (O.faults output.old) (O.faults output.new)) result Stop.Output }
+    ensures output { FailsOnly (counts (O.faults output.old) (O.faults output.new)) result
+        Stop.Output }
 {
     if session.batch.is_empty() {
         return Ok(());
@@ -108,7 +115,8 @@ fn play_statement<S: Store, O: Sink>(
     statement: Statement,
 ) -> Result<(), Stop>
     requires stands { Stands S.Store session.old }
-    requires cleared { lets_run statement ≡ true → IsTrue session.old.was_empty → session.old.batch ≡ [] }
+    requires cleared { lets_run statement ≡ true → IsTrue session.old.was_empty →
+        session.old.batch ≡ [] }
     ensures done { IsTrue S.tells → OnOk result (HasDone S.Store (Does statement)
         session.old session.new (writing O.Sink output.old output.new)) }
     ensures left { IsTrue S.tells → IfErr result (LeftBy S.Store (performing statement)
@@ -117,7 +125,8 @@ fn play_statement<S: Store, O: Sink>(
         (RefusedWhere (IsTrue S.tells → is_allowed (at S.Store session.old) statement ≡ false)) }
     ensures caused { IfErr result (StopsFor S.Store session.old session.new) }
     ensures kept { IsKept S.Store session.old session.new result }
-    ensures output { FailsOnly (counts (O.faults output.old) (O.faults output.new)) result Stop.Output }
+    ensures output { FailsOnly (counts (O.faults output.old) (O.faults output.new)) result
+        Stop.Output }
 {
     let answer = session.perform(alloc, statement)?;
     write_answer(alloc, output, &answer)

@@ -14,12 +14,15 @@ use txn_play::{Answer, Refusal};
 
 /// Writes the lines of an answer. Nothing is written where memory for them is wanting.
 pub fn write_answer<O: Sink>(alloc: Global, output: &mut O, answer: &Answer) -> Result<(), Stop>
-    ensures whole { OnOk result (Wrote (writing O.Sink output.old output.new) (answer_text answer.now)) }
+    ensures whole { OnOk result (Wrote (writing O.Sink output.old output.new)
+        (answer_text answer.now)) }
     ensures part { result ≡ Err Stop.Output →
         WrotePart (writing O.Sink output.old output.new) [] (answer_text answer.now) }
-    ensures none { result ≡ Err (Stop.Refused NoMemory) → Wrote (writing O.Sink output.old output.new) [] }
+    ensures none { result ≡ Err (Stop.Refused NoMemory) →
+        Wrote (writing O.Sink output.old output.new) [] }
     ensures kind { IfErr result (λ stop. (stop ≡ Stop.Output) ⊎ (stop ≡ Stop.Refused NoMemory)) }
-    ensures kept { FailsOnly (counts (O.faults output.old) (O.faults output.new)) result Stop.Output }
+    ensures kept { FailsOnly (counts (O.faults output.old) (O.faults output.new)) result
+        Stop.Output }
 {
     match lines_of(alloc, answer) {
         Ok(lines) => match pour(output, lines.as_slice()) {
@@ -34,14 +37,17 @@ pub fn write_answer<O: Sink>(alloc: Global, output: &mut O, answer: &Answer) -> 
 /// where the line can't be made or written. After a fault of the output there is none.
 pub fn tell<O: Sink>(alloc: Global, output: &mut O, fault: Fault) -> Fault
     ensures result_is { (result ≡ fault) ⊎ (result ≡ Fault.OutOfMemory)
-        ⊎ ((result ≡ Fault.Output) × HasRisen (counts (O.faults output.old) (O.faults output.new))) }
+        ⊎ ((result ≡ Fault.Output) × HasRisen
+        (counts (O.faults output.old) (O.faults output.new))) }
     ensures output { fault ≡ Fault.Output →
         (result ≡ Fault.Output) × Wrote (writing O.Sink output.old output.new) [] }
     ensures memory { fault ≡ Fault.OutOfMemory → result ≡ Fault.OutOfMemory }
     ensures told { result ≢ Fault.Output → result ≢ Fault.OutOfMemory →
         Wrote (writing O.Sink output.old output.new) (fault_text result) }
-    ensures short { result ≡ Fault.OutOfMemory → WroteOrFailed (writing O.Sink output.old output.new) []
-        (fault_text Fault.OutOfMemory) (HasRisen (counts (O.faults output.old) (O.faults output.new))) }
+    ensures short { result ≡ Fault.OutOfMemory →
+        WroteOrFailed (writing O.Sink output.old output.new) []
+        (fault_text Fault.OutOfMemory) (HasRisen
+        (counts (O.faults output.old) (O.faults output.new))) }
     ensures cut { fault ≢ Fault.Output → result ≡ Fault.Output →
         WrotePart (writing O.Sink output.old output.new) [] (fault_text fault) }
     ensures later { O.faults output.old ≤ O.faults output.new }

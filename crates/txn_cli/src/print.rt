@@ -30,7 +30,8 @@ pub fn lines_of(alloc: Global, answer: &Answer) -> Result<Vec<u8>, OutOfMemory>
 
 /// A line for each document, in their order.
 fn push_documents(lines: &mut Vec<u8>, docs: &[Doc]) -> Result<(), OutOfMemory>
-    ensures { OnOk result (lines.new.items ≡ lines.old.items ++ flat_map document_line (pairs_of docs.now)) }
+    ensures { OnOk result (lines.new.items ≡ lines.old.items ++ flat_map document_line
+        (pairs_of docs.now)) }
 {
     for doc in docs {
         push_document(lines, doc)?;

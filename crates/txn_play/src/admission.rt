@@ -24,11 +24,13 @@ use txn_runner::only;
 
 /// Whether the store has no cell.
 pub fn is_empty<S: Store>(alloc: Global, store: &mut S) -> Result<bool, Refusal>
-    ensures answer { IsTrue S.tells → IfOk result (λ answer. answer ≡ has_no_cell (S.content store.old)) }
+    ensures answer { IsTrue S.tells → IfOk result (λ answer.
+        answer ≡ has_no_cell (S.content store.old)) }
     ensures same { IsTrue S.tells → S.content store.new ≡ S.content store.old }
     ensures calls { CallsGoOn S.Store store.old store.new }
     ensures fault { IsErrOf result Refusal.Store → Rose (S.faults store.old) (S.faults store.new) }
-    ensures other { OnErr result ((result ≡ Err Refusal.Store) ⊎ (result ≡ Err Refusal.OutOfMemory)) }
+    ensures other { OnErr result ((result ≡ Err Refusal.Store) ⊎
+        (result ≡ Err Refusal.OutOfMemory)) }
 {
     let first = store.next(alloc, None)?;
     Ok(first.is_none())
@@ -41,15 +43,19 @@ pub fn place_document<S: Store>(
     key: Key,
     body: Value,
 ) -> Result<bool, Refusal>
-    ensures absent { IsTrue S.tells → IfOk result (λ placed. placed ≡ not (has_document (S.content store.old) key)) }
+    ensures absent { IsTrue S.tells → IfOk result (λ placed.
+        placed ≡ not (has_document (S.content store.old) key)) }
     ensures made { IsTrue S.tells → IfOk result
-        (λ placed. OnTrue placed (S.content store.new ≡ insert (S.content store.old) (Doc key) (placed_doc body))) }
-    ensures missed { IsTrue S.tells → IfOk result (λ placed. placed ≡ false → S.content store.new ≡ S.content store.old) }
+        (λ placed. OnTrue placed (S.content store.new ≡ insert (S.content store.old) (Doc key)
+        (placed_doc body))) }
+    ensures missed { IsTrue S.tells → IfOk result (λ placed. placed ≡ false →
+        S.content store.new ≡ S.content store.old) }
     ensures left { IsTrue S.tells → OnErr result (S.content store.new ≡ S.content store.old) }
     ensures calm { IsTrue S.tells → IsCalm (S.content store.old) → IsCalm (S.content store.new) }
     ensures calls { CallsGoOn S.Store store.old store.new }
     ensures fault { IsErrOf result Refusal.Store → Rose (S.faults store.old) (S.faults store.new) }
-    ensures other { OnErr result ((result ≡ Err Refusal.Store) ⊎ (result ≡ Err Refusal.OutOfMemory)) }
+    ensures other { OnErr result ((result ≡ Err Refusal.Store) ⊎
+        (result ≡ Err Refusal.OutOfMemory)) }
 {
     let name = Name::Doc(key);
     let cell = Cell::Doc(DocCell {
@@ -70,12 +76,14 @@ pub fn may_wait<S: Store>(
     ops: &Ops,
 ) -> Result<bool, Refusal>
     requires built { is_built ops.now ≡ true }
-    ensures answer { IsTrue S.tells → IfOk result (λ may. may ≡ (not (has_record (S.content store.old) id)
+    ensures answer { IsTrue S.tells → IfOk result (λ may.
+        may ≡ (not (has_record (S.content store.old) id)
         && list_all (λ op. has_document (S.content store.old) op.key) ops.now)) }
     ensures reads { IsTrue S.tells → OnlyReads S.Store store.old store.new }
     ensures calls { CallsGoOn S.Store store.old store.new }
     ensures fault { IsErrOf result Refusal.Store → Rose (S.faults store.old) (S.faults store.new) }
-    ensures other { OnErr result ((result ≡ Err Refusal.Store) ⊎ (result ≡ Err Refusal.OutOfMemory)) }
+    ensures other { OnErr result ((result ≡ Err Refusal.Store) ⊎
+        (result ≡ Err Refusal.OutOfMemory)) }
 {
     let name = Name::Doc(only(ops).key.copy(alloc)?);
     if is_there(alloc, store, &Name::Record(id))? {
@@ -86,11 +94,13 @@ pub fn may_wait<S: Store>(
 
 /// Whether a cell stands under a name.
 fn is_there<S: Store>(alloc: Global, store: &mut S, name: &Name) -> Result<bool, Refusal>
-    ensures answer { IsTrue S.tells → IfOk result (λ there. there ≡ is_some (get (S.content store.old) name.now)) }
+    ensures answer { IsTrue S.tells → IfOk result (λ there.
+        there ≡ is_some (get (S.content store.old) name.now)) }
     ensures reads { IsTrue S.tells → OnlyReads S.Store store.old store.new }
     ensures calls { CallsGoOn S.Store store.old store.new }
     ensures fault { IsErrOf result Refusal.Store → Rose (S.faults store.old) (S.faults store.new) }
-    ensures other { OnErr result ((result ≡ Err Refusal.Store) ⊎ (result ≡ Err Refusal.OutOfMemory)) }
+    ensures other { OnErr result ((result ≡ Err Refusal.Store) ⊎
+        (result ≡ Err Refusal.OutOfMemory)) }
 {
     let found = store.read(alloc, name)?;
     Ok(found.is_some())

@@ -35,7 +35,8 @@ impl<S: Store> Session<S> {
     /// Does a statement, and answers what it comes to. A batch that the statement lets run has run before.
     pub fn perform(&mut self, alloc: Global, statement: Statement) -> Result<Answer, Refusal>
         requires stands { Stands S.Store self.old }
-        requires cleared { lets_run statement ≡ true → IsTrue self.old.was_empty → self.old.batch ≡ [] }
+        requires cleared { lets_run statement ≡ true → IsTrue self.old.was_empty →
+            self.old.batch ≡ [] }
         ensures done { IsTrue S.tells → IfOk result
             (Does statement (at S.Store self.old) (at S.Store self.new)) }
         ensures left { IsTrue S.tells → IfErr result (HasLeft (runs_batch statement) self.old.batch
@@ -105,7 +106,8 @@ impl<S: Store> Session<S> {
     /// Runs the batch, and answers how its records stand.
     pub fn go(&mut self, alloc: Global) -> Result<Answer, Refusal>
         requires stands { Stands S.Store self.old }
-        ensures done { IsTrue S.tells → IfOk result (RunsBatch (at S.Store self.old) (at S.Store self.new)) }
+        ensures done { IsTrue S.tells → IfOk result
+            (RunsBatch (at S.Store self.old) (at S.Store self.new)) }
         ensures allowed { OnOk result (self.old.was_empty ≡ true) }
         ensures cleared { OnOk result (self.new.batch ≡ []) }
         ensures left { IsTrue S.tells → IfErr result (HasLeft true self.old.batch

@@ -31,9 +31,11 @@ pub fn run_batch<S: Store>(
     batch: &[Waiting],
 ) -> Result<Items<RecordState>, Refusal>
     requires may_run { IsTrue S.tells → MayRun (S.content store.old) batch.now }
-    requires runs { IsTrue S.tells → RunsGoOn (S.trail store.old) runs.old.items (S.calls store.old) }
+    requires runs { IsTrue S.tells → RunsGoOn (S.trail store.old) runs.old.items
+        (S.calls store.old) }
     requires built { are_built batch.now ≡ true }
-    ensures runs { IsTrue S.tells → RunsGoOn (S.trail store.new) runs.new.items (S.calls store.new) }
+    ensures runs { IsTrue S.tells → RunsGoOn (S.trail store.new) runs.new.items
+        (S.calls store.new) }
     ensures done { IsTrue S.tells → IfOk result
         (λ states. HasRunBatch (S.content store.old) (S.content store.new) batch.now
         runs.old.items runs.new.items states) }
@@ -42,7 +44,8 @@ pub fn run_batch<S: Store>(
         (record { content = S.content store.old; runs = runs.old.items })
         (record { content = S.content store.new; runs = runs.new.items })) }
     ensures reason { IsTrue S.tells → IfErr result (HasReason (S.content store.new)) }
-    ensures enough { IsTrue S.tells → Suffices (S.content store.old) (length batch.now) → IfErr result IsUnspent }
+    ensures enough { IsTrue S.tells → Suffices (S.content store.old) (length batch.now) →
+        IfErr result IsUnspent }
     ensures cause { IfErr result (HasCause S.Store store.old store.new) }
     ensures kind { IfErr result IsOfRun }
     ensures calls { CallsGoOn S.Store store.old store.new }
@@ -78,10 +81,14 @@ fn run_all<S: Store>(
     requires built { are_built batch.now ≡ true }
     ensures works { IsTrue S.tells →
         WorksOnBatch S.Store store.old store.new order.old.items order.new.items batch.now }
-    ensures done { IsTrue S.tells → IfOk result (λ states. IsDoneWith (S.content store.new) batch.now states) }
-    ensures uses { IsTrue S.tells → Uses (S.content store.old) (S.content store.new) (length batch.now) (length batch.now) 0 0 }
-    ensures records { IsTrue S.tells → LeavesRecords (S.content store.new) order.old.items order.new.items batch.now }
-    ensures unfinished { IsTrue S.tells → IfErr result (LeavesUnfinished (S.content store.new) batch.now) }
+    ensures done { IsTrue S.tells → IfOk result (λ states.
+        IsDoneWith (S.content store.new) batch.now states) }
+    ensures uses { IsTrue S.tells → Uses (S.content store.old) (S.content store.new)
+        (length batch.now) (length batch.now) 0 0 }
+    ensures records { IsTrue S.tells → LeavesRecords (S.content store.new) order.old.items
+        order.new.items batch.now }
+    ensures unfinished { IsTrue S.tells →
+        IfErr result (LeavesUnfinished (S.content store.new) batch.now) }
     ensures reason { IsTrue S.tells → IfErr result (HasReason (S.content store.new)) }
     ensures cause { IfErr result (HasCause S.Store store.old store.new) }
     ensures kind { IfErr result IsOfRun }
@@ -102,7 +109,8 @@ fn submit_all<S: Store>(alloc: Global, store: &mut S, batch: &[Waiting]) -> Resu
     ensures begun { IsTrue S.tells → OnOk result (IsBegun (S.content store.new) batch.now) }
     ensures uses { IsTrue S.tells → Uses (S.content store.old) (S.content store.new) 0 0 0 0 }
     ensures own { IsTrue S.tells → Every (HasOwnOperations (S.content store.new)) batch.now }
-    ensures unfinished { IsTrue S.tells → IfErr result (LeavesUnfinished (S.content store.new) batch.now) }
+    ensures unfinished { IsTrue S.tells →
+        IfErr result (LeavesUnfinished (S.content store.new) batch.now) }
     ensures reason { IsTrue S.tells → IfErr result (HasReason (S.content store.new)) }
     ensures cause { IfErr result (HasCause S.Store store.old store.new) }
     ensures kind { IfErr result IsOfRun }
@@ -130,9 +138,12 @@ fn settle_all<S: Store>(
     requires built { are_built batch.now ≡ true }
     ensures works { IsTrue S.tells →
         WorksOnBatch S.Store store.old store.new order.old.items order.new.items batch.now }
-    ensures done { IsTrue S.tells → IfOk result (λ states. IsDoneWith (S.content store.new) batch.now states) }
-    ensures uses { IsTrue S.tells → Uses (S.content store.old) (S.content store.new) (length batch.now) (length batch.now) 0 0 }
-    ensures unfinished { IsTrue S.tells → IfErr result (LeavesUnfinished (S.content store.new) batch.now) }
+    ensures done { IsTrue S.tells → IfOk result (λ states.
+        IsDoneWith (S.content store.new) batch.now states) }
+    ensures uses { IsTrue S.tells → Uses (S.content store.old) (S.content store.new)
+        (length batch.now) (length batch.now) 0 0 }
+    ensures unfinished { IsTrue S.tells →
+        IfErr result (LeavesUnfinished (S.content store.new) batch.now) }
     ensures reason { IsTrue S.tells → IfErr result (HasReason (S.content store.new)) }
     ensures cause { IfErr result (HasCause S.Store store.old store.new) }
     ensures kind { IfErr result IsOfRun }
