@@ -1,6 +1,5 @@
 pub mod Beginning
 pub mod Coming
-pub mod Completing
 pub mod LineSteps
 pub mod Scripts
 pub mod Spending

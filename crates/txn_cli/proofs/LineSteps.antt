@@ -25,7 +25,7 @@ use Rattle.txn_play.specs.declared.session.Session.{Session}
 use Rattle.txn_play.proofs.BatchRuns.{left_more}
 use Rattle.txn_cli.specs.Faults.{refusal_in_stop, stop_of_reading}
 use Rattle.txn_cli.specs.Line.{Between, Deed, HasDone, HasDoneCut, HasDoneIdly, HasDoneLine, HasRunFirst, HasStoppedLine, LeftBy, RefusedBy, RefusedWhere, RunsFirst, StopsFor, performing, playing, running, running_first, up_to, from}
-use Rattle.txn_cli.specs.Output.{Writing, Wrote, WrotePart, answer_text}
+use Rattle.txn_cli.specs.Output.{Writing, Wrote, WrotePart, answer_text, prints}
 use Rattle.txn_cli.proofs.Scripts.{first_as}
 use Rattle.txn_cli.specs.Script.{PlaysAs, PlaysLine, RefusedAs, line_lets_run, line_may_run}
 use Rattle.txn_cli.specs.declared.stop.Stop.{Stop}
@@ -53,7 +53,7 @@ left_by_more store a b old new w (stop.Refused refusal.NotBuilt) may does h = h
 left_by_more store a b old new w (stop.Refused refusal.Store) may does h = (left_more a.may_run b.may_run old.batch (store.trail new.store) (holding store old) (holding store new) refusal.Store may h.0, h.1)
 left_by_more store a b old new w (stop.Refused refusal.OutOfMemory) may does h = (
   ⊎_elim (λ l. inl (left_more a.may_run b.may_run old.batch (store.trail new.store) (holding store old) (holding store new) refusal.OutOfMemory may l))
-      (λ d. inr (record { answer = d.answer; did = does (at store old) (at store new) d.answer d.did })) h.0,
+      (λ d. inr (record { done = record { answer = d.done.answer; did = does (at store old) (at store new) d.done.answer d.done.did }; lines = d.lines })) h.0,
   h.1,
 )
 left_by_more store a b old new w (stop.Refused (refusal.Spent e)) may does h = (left_more a.may_run b.may_run old.batch (store.trail new.store) (holding store old) (holding store new) (refusal.Spent e) may h.0, h.1)
@@ -68,17 +68,17 @@ left_by_first store lets old new w (Err why) is l = left_by_more store running (
 -- what was done is left where its answer couldn't be written
 pub left_by_write : {S T : Type 0} (store : Ghosts S) (deed : Deed) (old new : Session S) (w : Writing) (answer : Answer) (result : Result T Stop) → deed.does (at store old) (at store new) answer
     → IfErr result (λ why. (why ≡ stop.Output) ⊎ (why ≡ stop.Refused refusal.OutOfMemory))
-    → (result ≡ Err stop.Output → WrotePart w [] (answer_text answer)) → (result ≡ Err (stop.Refused refusal.OutOfMemory) → Wrote w [])
+    → (result ≡ Err stop.Output → WrotePart w [] (answer_text answer)) → (result ≡ Err (stop.Refused refusal.OutOfMemory) → Wrote w []) → (result ≡ Err (stop.Refused refusal.OutOfMemory) → prints answer ≡ true)
     → IfErr result (LeftBy store deed old new w)
-left_by_write store deed old new w answer (Ok x) did kind part none = tt
-left_by_write store deed old new w answer (Err stop.Output) did kind part none = record { done = record { answer = answer; did = did }; part = part refl }
-left_by_write store deed old new w answer (Err (stop.Refused refusal.OutOfMemory)) did kind part none = (inr (record { answer = answer; did = did }), none refl)
-left_by_write store deed old new w answer (Err (stop.Misread e)) did kind part none = absurd (⊎_elim (λ h. cc) (λ h. cc) kind)
-left_by_write store deed old new w answer (Err (stop.Refused refusal.NotBuilt)) did kind part none = absurd (⊎_elim (λ h. cc) (λ h. cc) kind)
-left_by_write store deed old new w answer (Err (stop.Refused refusal.Store)) did kind part none = absurd (⊎_elim (λ h. cc) (λ h. cc) kind)
-left_by_write store deed old new w answer (Err (stop.Refused (refusal.Spent e))) did kind part none = absurd (⊎_elim (λ h. cc) (λ h. cc) kind)
-left_by_write store deed old new w answer (Err (stop.Refused (refusal.Broken e))) did kind part none = absurd (⊎_elim (λ h. cc) (λ h. cc) kind)
-left_by_write store deed old new w answer (Err (stop.Refused (refusal.Repeated id))) did kind part none = absurd (⊎_elim (λ h. cc) (λ h. cc) kind)
+left_by_write store deed old new w answer (Ok x) did kind part none lines = tt
+left_by_write store deed old new w answer (Err stop.Output) did kind part none lines = record { done = record { answer = answer; did = did }; part = part refl }
+left_by_write store deed old new w answer (Err (stop.Refused refusal.OutOfMemory)) did kind part none lines = (inr (record { done = record { answer = answer; did = did }; lines = lines refl }), none refl)
+left_by_write store deed old new w answer (Err (stop.Misread e)) did kind part none lines = absurd (⊎_elim (λ h. cc) (λ h. cc) kind)
+left_by_write store deed old new w answer (Err (stop.Refused refusal.NotBuilt)) did kind part none lines = absurd (⊎_elim (λ h. cc) (λ h. cc) kind)
+left_by_write store deed old new w answer (Err (stop.Refused refusal.Store)) did kind part none lines = absurd (⊎_elim (λ h. cc) (λ h. cc) kind)
+left_by_write store deed old new w answer (Err (stop.Refused (refusal.Spent e))) did kind part none lines = absurd (⊎_elim (λ h. cc) (λ h. cc) kind)
+left_by_write store deed old new w answer (Err (stop.Refused (refusal.Broken e))) did kind part none lines = absurd (⊎_elim (λ h. cc) (λ h. cc) kind)
+left_by_write store deed old new w answer (Err (stop.Refused (refusal.Repeated id))) did kind part none lines = absurd (⊎_elim (λ h. cc) (λ h. cc) kind)
 
 -- what is left for a batch is left once it was run first, or none was
 pub enough_first : {S : Type 0} (store : Ghosts S) (lets : Bool) (old between : Session S) (answer : Answer) → RunsFirst lets (at store old) (at store between) answer → HasEnough store old → HasEnough store between

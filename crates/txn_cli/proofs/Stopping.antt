@@ -119,7 +119,7 @@ module _ {S : Type 0} (store : Ghosts S) (script untaken : List ℕ) (begun : Pr
   stops_here (stop.Misread w) f is text unspent l = by_text (script_text w) f is text l.0 l.1
   stops_here (stop.Refused refusal.NotBuilt) f is text unspent l = by_text (script_text script_fault.NotBuilt) f is text l.0 l.1
   stops_here (stop.Refused refusal.OutOfMemory) f is text unspent l =
-      subst (HasStopped taken begun end whole) (sym is) (ends fault.OutOfMemory tt (⊎_elim (λ held. inl (record { next = tt; left = left_next refusal.OutOfMemory held })) (λ d. inr (done_next d)) l.0, unwritten l.1))
+      subst (HasStopped taken begun end whole) (sym is) (ends fault.OutOfMemory tt (⊎_elim (λ held. inl (record { next = tt; left = left_next refusal.OutOfMemory held })) (λ d. inr (record { done = done_next d.done; lines = d.lines })) l.0, unwritten l.1))
   stops_here (stop.Refused refusal.Store) f is text unspent l =
       subst (HasStopped taken begun end whole) (sym is) (ends fault.Store tt (record { next = tt; left = left_next refusal.Store l.0 }, unwritten l.1))
   stops_here (stop.Refused (refusal.Spent e)) f is text unspent l = elim unspent [ ]

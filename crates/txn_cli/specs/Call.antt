@@ -1,6 +1,6 @@
 -- What a call is given and what it returns: what was done of a script, what the store holds, and what was
 -- written.
-use Rattle.std.specs.Prelude.{◌≡◌, ◌≢◌, ◌≤◌, ◌+◌, ◌++◌, ◌⊎◌, ℕ, Bool, IsTrue, List, Option, Some, None, String, map, string_bytes}
+use Rattle.std.specs.Prelude.{◌≡◌, ◌≢◌, ◌≤◌, ◌+◌, ◌++◌, ◌⊎◌, ℕ, Bool, true, IsTrue, List, Option, Some, None, String, map, string_bytes}
 use Rattle.std.specs.Global.{Global}
 use Rattle.store_trait.specs.Contents.{Content}
 use Rattle.store_trait.specs.declared.store.Store.{Ghosts}
@@ -14,7 +14,7 @@ use Rattle.txn_play.specs.declared.answer.Answer.{Answer}
 use Rattle.txn_play.specs.declared.refusal.Refusal.{Refusal}
 use Rattle.txn_play.specs.declared.run.Run.{Run}
 use Rattle.txn_cli.specs.Faults.{Circumstances, IsCaused, NoneSpent, circumstances, counts, refusal_in}
-use Rattle.txn_cli.specs.Output.{Writing, Wrote, WroteOrFailed, WrotePart, answer_text, answers_text, fault_text, writing}
+use Rattle.txn_cli.specs.Output.{Writing, Wrote, WroteOrFailed, WrotePart, answer_text, answers_text, fault_text, prints, writing}
 use Rattle.txn_cli.specs.Script.{DoesNext, IsPlayed, PlaysTo, Reached, Refuses, after_lines, next_may_run, next_of}
 use Rattle.txn_cli.specs.Words.{is_grammar}
 use Rattle.txn_cli.specs.declared.done.Done.{Done}
@@ -103,10 +103,15 @@ pub record HasCut (script : List ℕ) (reached : Reached) (end : Held) (w : Writ
   pub done : HasDoneNext script reached end
   pub part : WrotePart w (answers_text reached.answers) (answer_text done.answer)
 
+-- what comes next was done, and memory for printing its answer was wanting
+pub record HasUntold (script : List ℕ) (reached : Reached) (end : Held) : Type 0 where
+  pub done : HasDoneNext script reached end
+  pub lines : prints done.answer ≡ true
+
 -- memory was wanting: for what comes next, or for what is to be printed of it
 abbrev pub LeavesShort : Taken → Reached → Held → Type 0
 LeavesShort taken reached end =
-    Leaves taken reached end fault.OutOfMemory ⊎ HasDoneNext taken.script reached end
+    Leaves taken reached end fault.OutOfMemory ⊎ HasUntold taken.script reached end
 
 -- Another refusal came, not for want of memory, and the output failed before all of its last line was
 -- written.

@@ -15,7 +15,7 @@ use Rattle.txn_play.specs.declared.refusal.Refusal.{Refusal}
 use Rattle.txn_play.specs.declared.refusal.Refusal.TheVariants as refusal
 use Rattle.txn_play.specs.declared.session.Session.{Session}
 use Rattle.txn_cli.specs.Faults.{refusal_in_stop}
-use Rattle.txn_cli.specs.Output.{Writing, Wrote, WrotePart, answer_text}
+use Rattle.txn_cli.specs.Output.{Writing, Wrote, WrotePart, answer_text, prints}
 use Rattle.txn_cli.specs.Script.{PlaysLine, RefusedAs, Stated, line_lets_run, line_may_run}
 use Rattle.txn_cli.specs.declared.stop.Stop.{Stop}
 use Rattle.txn_cli.specs.declared.stop.Stop.TheVariants as stop
@@ -65,6 +65,12 @@ pub record HasDoneIdly {S : Type 0} (store : Ghosts S) (deed : Deed) (old new : 
   pub answer : Answer
   pub did : deed.does (at store old) (at store new) answer
 
+-- this was done, and memory for printing its answer was wanting
+pub record HasDoneUntold {S : Type 0} (store : Ghosts S) (deed : Deed) (old new : Session S)
+    : Type 0 where
+  pub done : HasDoneIdly store deed old new
+  pub lines : prints done.answer ≡ true
+
 pub record HasDoneCut {S : Type 0} (store : Ghosts S) (deed : Deed) (old new : Session S) (w : Writing)
     : Type 0 where
   pub done : HasDoneIdly store deed old new
@@ -81,7 +87,7 @@ abbrev pub LeftBy : {S : Type 0} → Ghosts S → Deed → Session S → Session
 LeftBy store deed old new w (stop.Misread why) =
     Stays (holding store old) (holding store new) × Wrote w []
 LeftBy store deed old new w (stop.Refused refusal.OutOfMemory) =
-    (Left store deed old new refusal.OutOfMemory ⊎ HasDoneIdly store deed old new) × Wrote w []
+    (Left store deed old new refusal.OutOfMemory ⊎ HasDoneUntold store deed old new) × Wrote w []
 LeftBy store deed old new w (stop.Refused why) = Left store deed old new why × Wrote w []
 LeftBy store deed old new w stop.Output = HasDoneCut store deed old new w
 

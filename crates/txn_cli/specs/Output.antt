@@ -1,5 +1,5 @@
 -- What the program prints, and what was written of it.
-use Rattle.std.specs.Prelude.{◌≡◌, ◌⊎◌, ℕ, Bool, IsTrue, List, [], ◌∷◌, ◌++◌, codes}
+use Rattle.std.specs.Prelude.{◌≡◌, ◌⊎◌, ℕ, Bool, true, false, IsTrue, List, [], ◌∷◌, ◌++◌, codes}
 use Rattle.std.specs.Fmt.{decimal}
 use Rattle.std.specs.List.{flat_map}
 use Rattle.std.specs.FinMap.{entries}
@@ -43,6 +43,12 @@ abbrev pub answer_text : Answer → List ℕ
 answer_text Nothing = []
 answer_text (States states) = flat_map state_line states
 answer_text (Documents docs) = documents_text docs
+
+-- whether an answer is printed
+abbrev pub prints : Answer → Bool
+prints Nothing = false
+prints (States _) = true
+prints (Documents _) = true
 
 abbrev pub answers_text : List Answer → List ℕ
 answers_text answers = flat_map answer_text answers

@@ -1,8 +1,8 @@
 //! What is written: the lines of answers, and the last line of a refusal.
 
-ghost use Rattle.std.specs.Prelude.{◌≡◌, ◌≢◌, ◌≤◌, ◌⊎◌, [], Err, IsTrue, OnOk, OnErr, IfErr};
+ghost use Rattle.std.specs.Prelude.{◌≡◌, ◌≢◌, ◌≤◌, ◌⊎◌, [], Err, true, IsTrue, OnOk, OnErr, IfErr};
 ghost use Rattle.txn_cli.specs.Faults.{FailsOnly, counts, HasRisen};
-ghost use Rattle.txn_cli.specs.Output.{Wrote, WroteOrFailed, WrotePart, answer_text, fault_text, writing};
+ghost use Rattle.txn_cli.specs.Output.{Wrote, WroteOrFailed, WrotePart, answer_text, fault_text, prints, writing};
 ghost use Rattle.txn_play.specs.declared.refusal.Refusal.TheVariants.{OutOfMemory as NoMemory};
 
 use crate::fault::Fault;
@@ -20,6 +20,7 @@ pub fn write_answer<O: Sink>(alloc: Global, output: &mut O, answer: &Answer) -> 
         WrotePart (writing O.Sink output.old output.new) [] (answer_text answer.now) }
     ensures none { result ≡ Err (Stop.Refused NoMemory) →
         Wrote (writing O.Sink output.old output.new) [] }
+    ensures lines { result ≡ Err (Stop.Refused NoMemory) → prints answer.now ≡ true }
     ensures kind { IfErr result (λ stop. (stop ≡ Stop.Output) ⊎ (stop ≡ Stop.Refused NoMemory)) }
     ensures kept { FailsOnly (counts (O.faults output.old) (O.faults output.new)) result
         Stop.Output }

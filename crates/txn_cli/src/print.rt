@@ -1,9 +1,9 @@
 //! The lines that the program prints.
 
-ghost use Rattle.std.specs.Prelude.{◌≡◌, ◌++◌, OnOk, IfOk};
+ghost use Rattle.std.specs.Prelude.{◌≡◌, ◌++◌, OnErr, OnOk, IfOk, true};
 ghost use Rattle.std.specs.List.{flat_map};
 ghost use Rattle.txn_key.specs.Documents.{pairs_of};
-ghost use Rattle.txn_cli.specs.Output.{answer_text, fault_text, state_line, state_word, step_text};
+ghost use Rattle.txn_cli.specs.Output.{answer_text, fault_text, prints, state_line, state_word, step_text};
 ghost use Rattle.txn_script.specs.Printing.{document_line};
 
 use crate::fault::Fault;
@@ -17,7 +17,8 @@ use txn_script::{push_document, push_key};
 
 /// The lines of what a statement answers.
 pub fn lines_of(alloc: Global, answer: &Answer) -> Result<Vec<u8>, OutOfMemory>
-    ensures { IfOk result (λ lines. lines.items ≡ answer_text answer.now) }
+    ensures text { IfOk result (λ lines. lines.items ≡ answer_text answer.now) }
+    ensures wanting { OnErr result (prints answer.now ≡ true) }
 {
     let mut lines = Vec::new(alloc);
     match answer {
