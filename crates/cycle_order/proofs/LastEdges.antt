@@ -6,7 +6,7 @@ use Rattle.std.proofs.lemmas.Option.{same_Some}
 use Rattle.cycle_order.specs.declared.graph.Edge.{Edge}
 use Rattle.cycle_order.specs.Graphs.{edge_of, HasEdge}
 use Rattle.cycle_order.specs.declared.incoming.Incoming.{Incoming}
-use Rattle.cycle_order.specs.Searching.{Marked, start_at, end_at, last_into, IsIncoming}
+use Rattle.cycle_order.specs.Search.{Marked, start_at, end_at, last_into, IsIncoming}
 
 -- k is the last of the first n places whose edge ends at t
 pub record IsLast (edges : List Edge) (t n k : ℕ) : Type 0 where

@@ -2,9 +2,9 @@
 use Rattle.std.proofs.Common.{◌≡◌, ◌≢◌, ℕ, ◌+◌, ◌<◌, ◌≤◌, ◌↔◌, ◌⊎◌, inl, inr, Bool, List, length, sym, refl, arith, below_more, subst}
 use Rattle.std.proofs.lemmas.Bool.{cases_eq}
 use Rattle.cycle_order.proofs.GraphFacts.{below_then, below_apart, unsettled_within}
-use Rattle.cycle_order.specs.Choosing.{IsLeastMarked, IsLeastAhead}
+use Rattle.cycle_order.specs.Choice.{IsLeastMarked, IsLeastAhead}
 use Rattle.cycle_order.specs.Graphs.{IsGraph, Ancestor, IsUnsettled, IsBelow}
-use Rattle.cycle_order.specs.Searching.{Marked}
+use Rattle.cycle_order.specs.Search.{Marked}
 use Rattle.cycle_order.specs.declared.graph.Graph.{Graph}
 
 -- w has the least id of the first n vertices that are marked and unsettled, and is one such itself

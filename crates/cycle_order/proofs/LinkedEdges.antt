@@ -3,7 +3,7 @@ use Rattle.std.proofs.Common.{◌≡◌, ◌≢◌, ℕ, ◌+◌, ◌<◌, ◌�
 use Rattle.std.proofs.lemmas.List.{get_or-replicate, length-replicate, length-set, length_push, get_or-set_same, get_or-set_other, get_or_append_left, get_or_push, get_or_read}
 use Rattle.std.proofs.lemmas.Bool.{ne_eqb, cases_eq}
 use Rattle.cycle_order.specs.declared.graph.Edge.{Edge}
-use Rattle.cycle_order.specs.Searching.{end_at, last_into, IsLinked}
+use Rattle.cycle_order.specs.Search.{end_at, last_into, IsLinked}
 
 replicate_linked : (edges : List Edge) (count : ℕ) → IsLinked edges (replicate count None) [] count 0
 replicate_linked edges count = record {

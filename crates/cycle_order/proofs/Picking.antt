@@ -5,9 +5,9 @@ use Rattle.std.proofs.lemmas.List.{length-replicate}
 use Rattle.txn_record.proofs.WalkLaws.{join}
 use Rattle.cycle_order.proofs.GraphFacts.{below_then, below_one_way, below_apart, unsettled_within, some_ready}
 use Rattle.cycle_order.proofs.Searches.{none_marked}
-use Rattle.cycle_order.specs.Choosing.{ComesFirst, IsLeastAhead, IsFirst, IsFirstOf, IsChoice}
+use Rattle.cycle_order.specs.Choice.{ComesFirst, IsLeastAhead, IsFirst, IsFirstOf, IsChoice}
 use Rattle.cycle_order.specs.Graphs.{IsGraph, Ancestor, IsUnsettled, AllSettled, IsBelow, IsReady, IsPicked, settled_at}
-use Rattle.cycle_order.specs.Searching.{Marked}
+use Rattle.cycle_order.specs.Search.{Marked}
 use Rattle.cycle_order.specs.declared.graph.Graph.{Graph}
 
 -- of what the least unsettled ancestor of a vertex leads to, only it can be ready

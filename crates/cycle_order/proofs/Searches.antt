@@ -7,7 +7,7 @@ use Rattle.txn_record.specs.Walks.{Leads}
 use Rattle.txn_record.proofs.WalkLaws.{one_edge, join, leads_in}
 use Rattle.cycle_order.specs.declared.graph.Edge.{Edge}
 use Rattle.cycle_order.specs.Graphs.{HasEdge}
-use Rattle.cycle_order.specs.Searching.{Marked, unmarked, Finds}
+use Rattle.cycle_order.specs.Search.{Marked, unmarked, Finds}
 
 module _ (P : ℕ → Type 0) where
   pub finds_none : (found : List Bool) (frontier : List ℕ) → Finds P found frontier found frontier

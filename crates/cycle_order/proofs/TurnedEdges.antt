@@ -4,9 +4,9 @@ use Rattle.std.proofs.lemmas.List.{get_or-map, length-map}
 use Rattle.std.proofs.lemmas.List.Elements.{All-map}
 use Rattle.txn_record.specs.Walks.{Leads}
 use Rattle.cycle_order.proofs.MoreWalks.{leads_turned}
-use Rattle.cycle_order.specs.Choosing.{turned, AreLinks, AllGiveWay}
+use Rattle.cycle_order.specs.Choice.{turned, AreLinks, AllGiveWay}
 use Rattle.cycle_order.specs.Graphs.{edge_of, HasEdge, Ancestor, IsReady}
-use Rattle.cycle_order.specs.Searching.{Marked}
+use Rattle.cycle_order.specs.Search.{Marked}
 use Rattle.cycle_order.specs.declared.graph.Edge.{Edge}
 use Rattle.cycle_order.specs.declared.graph.Graph.{Graph}
 use Rattle.cycle_order.specs.declared.links.Links.{Links}

@@ -1,4 +1,4 @@
 pub mod Graphs
-pub mod Searching
-pub mod Choosing
+pub mod Search
+pub mod Choice
 pub mod ByIds

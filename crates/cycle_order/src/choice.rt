@@ -1,7 +1,7 @@
 ghost use Rattle.std.specs.Prelude.{◌≡◌, ℕ, ◌<◌, ◌↔◌, length, IfOk, IfSome, OnOk, IsNone, IsTrue};
-ghost use Rattle.cycle_order.specs.Choosing.{AreLinks, ComesFirst, IsFirstOf, IsChoice};
+ghost use Rattle.cycle_order.specs.Choice.{AreLinks, ComesFirst, IsFirstOf, IsChoice};
 ghost use Rattle.cycle_order.specs.Graphs.{IsGraph, IsUnsettled, AllSettled, IsPicked};
-ghost use Rattle.cycle_order.specs.Searching.{Marked};
+ghost use Rattle.cycle_order.specs.Search.{Marked};
 
 use crate::graph::Graph;
 use crate::least::least_ahead;

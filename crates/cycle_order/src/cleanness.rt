@@ -1,6 +1,6 @@
 ghost use Rattle.std.specs.Prelude.{◌≡◌, ℕ, ◌<◌, ◌↔◌, true, false, length, IfOk, IsTrue, slice_index_or};
 ghost use Rattle.cycle_order.specs.Graphs.{IsGraph, IsClean};
-ghost use Rattle.cycle_order.specs.Searching.{Marked};
+ghost use Rattle.cycle_order.specs.Search.{Marked};
 
 use crate::ancestry::ancestors;
 use crate::graph::Graph;

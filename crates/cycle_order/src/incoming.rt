@@ -1,5 +1,5 @@
 ghost use Rattle.std.specs.Prelude.{◌≡◌, ◌<◌, replicate, None, All, IfOk};
-ghost use Rattle.cycle_order.specs.Searching.{IsIncoming};
+ghost use Rattle.cycle_order.specs.Search.{IsIncoming};
 
 use crate::graph::Edge;
 use doc_value::OutOfMemory;

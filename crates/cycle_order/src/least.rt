@@ -1,7 +1,7 @@
 ghost use Rattle.std.specs.Prelude.{◌≡◌, ◌<◌, ◌↔◌, length, IfOk, IsTrue};
-ghost use Rattle.cycle_order.specs.Choosing.{AreLinks, IsLeastAhead, IsLeastMarked};
+ghost use Rattle.cycle_order.specs.Choice.{AreLinks, IsLeastAhead, IsLeastMarked};
 ghost use Rattle.cycle_order.specs.Graphs.{IsGraph, IsUnsettled, IsBelow};
-ghost use Rattle.cycle_order.specs.Searching.{Marked};
+ghost use Rattle.cycle_order.specs.Search.{Marked};
 
 use crate::graph::Graph;
 use crate::links::Links;

@@ -1,6 +1,6 @@
 ghost use Rattle.std.specs.Prelude.{◌≡◌, map, IfOk};
 ghost use Rattle.cycle_order.specs.Graphs.{IsGraph};
-ghost use Rattle.cycle_order.specs.Choosing.{AreLinks, turned};
+ghost use Rattle.cycle_order.specs.Choice.{AreLinks, turned};
 
 use crate::graph::{Edge, Graph};
 use crate::incoming::Incoming;

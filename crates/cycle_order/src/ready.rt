@@ -1,5 +1,5 @@
 ghost use Rattle.std.specs.Prelude.{◌≡◌, ◌<◌, ◌↔◌, length, IfOk, IsTrue};
-ghost use Rattle.cycle_order.specs.Choosing.{AreLinks, GivesWay, AllGiveWay};
+ghost use Rattle.cycle_order.specs.Choice.{AreLinks, GivesWay, AllGiveWay};
 ghost use Rattle.cycle_order.specs.Graphs.{IsGraph, IsBelow, IsReady};
 
 use crate::graph::Graph;

@@ -1,7 +1,7 @@
 ghost use Rattle.std.specs.Prelude.{◌≡◌, ℕ, ◌<◌, ◌⊎◌, ◌↔◌, false, length, IfOk, OnOk, IsTrue, slice_index_or};
 ghost use Rattle.txn_record.specs.Walks.{Leads};
 ghost use Rattle.cycle_order.specs.Graphs.{HasEdge};
-ghost use Rattle.cycle_order.specs.Searching.{Marked, Finds, IsIncoming};
+ghost use Rattle.cycle_order.specs.Search.{Marked, Finds, IsIncoming};
 
 use crate::incoming::Incoming;
 use doc_value::OutOfMemory;

@@ -4,10 +4,10 @@ use Rattle.std.proofs.lemmas.Bool.{true≢false}
 use Rattle.std.proofs.lemmas.Bool.Decides.{nat_tests}
 use Rattle.doc_value.specs.declared.value.Named.{Named}
 use Rattle.doc_value.specs.declared.value.Value.{Value, Object}
-use Rattle.doc_value.specs.Nesting.{nesting}
-use Rattle.doc_apply.specs.Fitting.{located, is_nothing, fits_in, reaches_below, puts_below}
+use Rattle.doc_value.specs.Depth.{nesting}
+use Rattle.doc_apply.specs.Fit.{located, is_nothing, fits_in, reaches_below, puts_below}
 use Rattle.doc_update.specs.Places.{part_of, placed, changed, with_field, field_or_none}
-use Rattle.doc_update.specs.Reading.{is_object}
+use Rattle.doc_update.specs.Syntax.{is_object}
 use Rattle.doc_apply.proofs.Depths.{too_deep, deep_fields, deep-Object, deep-Object-first, deep-append, deep-one}
 use Rattle.doc_update.proofs.FieldLaws.{kept}
 use Rattle.doc_update.proofs.Steps.{Effect, by_steps}

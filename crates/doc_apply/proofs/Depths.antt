@@ -7,7 +7,7 @@ use Rattle.std.proofs.lemmas.Bool.Decides.{nat_tests}
 use Rattle.doc_value.specs.declared.value.Named.{Named}
 use Rattle.doc_value.specs.declared.value.Value.{Value, Object, the_lemmas}
 use Rattle.doc_value.specs.Fields.{judged}
-use Rattle.doc_value.specs.Nesting.{nesting, deepest_field}
+use Rattle.doc_value.specs.Depth.{nesting, deepest_field}
 use Rattle.doc_value.specs.Paths.{field_named}
 use Rattle.doc_update.specs.Places.{with_field, field_or_none}
 use Rattle.doc_update.proofs.FieldLaws.{kept}

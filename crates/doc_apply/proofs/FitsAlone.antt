@@ -4,13 +4,13 @@ use Rattle.std.specs.List.{list_any, list_all}
 use Rattle.std.proofs.lemmas.Bool.{true≢false, and_parts, or_parts, not-true}
 use Rattle.std.proofs.lemmas.Option.{same_Some}
 use Rattle.doc_value.specs.declared.value.Value.{Value}
-use Rattle.doc_value.specs.Nesting.{nesting}
+use Rattle.doc_value.specs.Depth.{nesting}
 use Rattle.doc_update.specs.Changes.{Change, changes_of, fields_of}
 use Rattle.doc_update.specs.Conflicts.{conflict, are_apart}
 use Rattle.doc_update.specs.Effects.{effect}
-use Rattle.doc_apply.specs.Fitting.{located, fits_in, puts_below, change_fits, change_is_deep}
+use Rattle.doc_apply.specs.Fit.{located, fits_in, puts_below, change_fits, change_is_deep}
 use Rattle.doc_update.specs.Places.{changed}
-use Rattle.doc_update.specs.Reading.{is_update}
+use Rattle.doc_update.specs.Syntax.{is_update}
 use Rattle.doc_update.specs.Updates.{after_change, after_changes, if_body, body_after}
 use Rattle.doc_update.proofs.Apart.{update_apart, have_paths, has_path}
 use Rattle.doc_update.proofs.Commuting.{commute, changed_there}

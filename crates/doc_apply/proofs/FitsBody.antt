@@ -5,9 +5,9 @@ use Rattle.std.proofs.lemmas.Bool.{true≢false}
 use Rattle.doc_value.specs.declared.value.Named.{Named}
 use Rattle.doc_value.specs.declared.value.Value.{Value, Object}
 use Rattle.doc_update.specs.Changes.{Change, changes_of}
-use Rattle.doc_apply.specs.Fitting.{change_fits, change_is_deep, change_is_good}
+use Rattle.doc_apply.specs.Fit.{change_fits, change_is_deep, change_is_good}
 use Rattle.doc_update.specs.Places.{part_of, placed, changed, with_field}
-use Rattle.doc_update.specs.Reading.{is_update, is_object}
+use Rattle.doc_update.specs.Syntax.{is_update, is_object}
 use Rattle.doc_update.specs.Updates.{body_after, updated, is_too_deep}
 use Rattle.doc_apply.proofs.Deepening.{leaves_nothing, nothing_left}
 use Rattle.doc_apply.proofs.Depths.{too_deep, deep_fields, deep-Object, deep-Object-first, deep-with, shallow-named}

@@ -3,7 +3,7 @@ use Rattle.std.proofs.Common.{◌≡◌, true, List, ℕ, Option, Some, None, re
 use Rattle.doc_value.specs.declared.value.Value.{Value, out-Value}
 use Rattle.doc_value.specs.Paths.{field_in}
 use Rattle.doc_value.proofs.OrderedNames.{field-ordered}
-use Rattle.doc_apply.specs.Fitting.{is_found_ordered}
+use Rattle.doc_apply.specs.Fit.{is_found_ordered}
 use Rattle.doc_update.specs.Places.{part_of}
 
 pub part-ordered : (part : List ℕ) (found : Option Value) → is_found_ordered found ≡ true → is_found_ordered (part_of part found) ≡ true

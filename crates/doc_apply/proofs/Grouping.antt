@@ -3,7 +3,7 @@ use Rattle.std.proofs.Common.{◌≡◌, ℕ, Bool, true, false, ◌&&◌, ◌||
 use Rattle.std.specs.List.{list_any, list_all}
 use Rattle.std.proofs.lemmas.Bool.{true≢false, and_parts, and_from, or_parts, not-true}
 use Rattle.doc_value.specs.declared.value.Value.{Value}
-use Rattle.doc_value.specs.Nesting.{deepest}
+use Rattle.doc_value.specs.Depth.{deepest}
 use Rattle.doc_update.specs.Changes.{Change}
 use Rattle.doc_update.specs.Conflicts.{paths_conflict, conflict, are_apart}
 use Rattle.doc_update.specs.Effects.{effect}

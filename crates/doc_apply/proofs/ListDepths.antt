@@ -2,7 +2,7 @@
 use Rattle.std.proofs.Common.{◌≡◌, ℕ, suc, ◌-◌, ◌<◌, ◌||◌, List, [], ◌∷◌, ◌++◌, max, map, nat_lt, ap, ◌∙◌, arith, rules}
 use Rattle.std.proofs.lemmas.Bool.Decides.{nat_tests}
 use Rattle.doc_value.specs.declared.value.Value.{Value, List as Items_of, the_lemmas}
-use Rattle.doc_value.specs.Nesting.{nesting, deepest}
+use Rattle.doc_value.specs.Depth.{nesting, deepest}
 
 pub nesting-List : (items : List Value) → nesting (Items_of items) ≡ suc (deepest (map nesting items))
 nesting-List items = search (rules, the_lemmas)

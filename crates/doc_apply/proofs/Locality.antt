@@ -6,7 +6,7 @@ use Rattle.std.proofs.lemmas.Slice.Eq.{bytes_eq-Decides}
 use Rattle.doc_value.specs.declared.value.Value.{Value}
 use Rattle.doc_update.specs.Conflicts.{paths_conflict}
 use Rattle.doc_update.specs.Places.{is_open, part_of, placed, changed}
-use Rattle.doc_apply.specs.Fitting.{located, is_nothing, fits_in}
+use Rattle.doc_apply.specs.Fit.{located, is_nothing, fits_in}
 use Rattle.doc_update.proofs.PlacedLaws.{put_there, put_fits, shut_part}
 use Rattle.doc_update.proofs.Steps.{Effect, by_steps}
 

@@ -5,7 +5,7 @@ use Rattle.doc_value.specs.declared.value.Named.{Named}
 use Rattle.doc_value.specs.declared.value.Value.{Value, Object}
 use Rattle.doc_update.specs.Places.{with_field}
 use Rattle.doc_apply.specs.Puts.{placed_all, with_fields, nothing_put}
-use Rattle.doc_update.specs.Reading.{is_object}
+use Rattle.doc_update.specs.Syntax.{is_object}
 use Rattle.doc_apply.specs.declared.put.Put.{Put}
 use Rattle.doc_update.proofs.PlacedLaws.{placed-Object, placed-closed, placed-unfit}
 

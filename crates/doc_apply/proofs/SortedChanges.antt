@@ -7,7 +7,7 @@ use Rattle.doc_update.specs.Changes.{Change, changes_of}
 use Rattle.doc_update.specs.Conflicts.{are_apart}
 use Rattle.doc_update.specs.Listed.{change_listed}
 use Rattle.doc_apply.specs.Groups.{change_below}
-use Rattle.doc_update.specs.Reading.{is_update}
+use Rattle.doc_update.specs.Syntax.{is_update}
 use Rattle.doc_update.specs.Updates.{after_changes, if_body, is_too_deep, updated}
 use Rattle.doc_update.specs.declared.change.Change.{Change as Listed}
 use Rattle.doc_update.proofs.Apart.{update_apart}

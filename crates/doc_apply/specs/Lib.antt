@@ -1,3 +1,3 @@
-pub mod Fitting
+pub mod Fit
 pub mod Puts
 pub mod Groups

@@ -3,13 +3,13 @@ ghost use Rattle.std.specs.Prelude.{◌≡◌, ◌==◌, count_by, ◌+◌, ◌�
 ghost use Rattle.std.specs.List.{list_all, list_any};
 ghost use Rattle.std.specs.Option.{option_copied};
 ghost use Rattle.doc_value.specs.declared.value.Value.{Value as Tree, out-Value, List as Items_of};
-ghost use Rattle.doc_value.specs.Nesting.{nesting, deepest};
+ghost use Rattle.doc_value.specs.Depth.{nesting, deepest};
 ghost use Rattle.doc_value.specs.Order.{is_ordered};
 ghost use Rattle.doc_value.specs.Paths.{parts_of};
 ghost use Rattle.doc_update.specs.Changes.{change_of, changes_in, changes_under};
 ghost use Rattle.doc_update.specs.Effects.{effect, effect_on, effect_on_missing, increased, without_item, pushed_onto, added_to, pulled_from, popped_from};
 ghost use Rattle.doc_update.specs.Places.{is_open, part_of};
-ghost use Rattle.doc_apply.specs.Fitting.{located, is_nothing, change_is_good, is_found_ordered, nests_below, reaches_below};
+ghost use Rattle.doc_apply.specs.Fit.{located, is_nothing, change_is_good, is_found_ordered, nests_below, reaches_below};
 ghost use Rattle.doc_update.specs.Operators.{operator_named};
 ghost use Rattle.doc_update.specs.Updates.{updated};
 

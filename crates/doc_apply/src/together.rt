@@ -4,7 +4,7 @@ ghost use Rattle.std.specs.Option.{option_copied};
 ghost use Rattle.std.specs.Cmp.Lexicographic.{slice_cmp};
 ghost use Rattle.std.specs.Ordering.{nat_cmp};
 ghost use Rattle.doc_update.specs.Conflicts.{are_apart};
-ghost use Rattle.doc_apply.specs.Fitting.{is_found_ordered};
+ghost use Rattle.doc_apply.specs.Fit.{is_found_ordered};
 ghost use Rattle.doc_apply.specs.Groups.{first_head, count_head, heads_rise, precedes_head, first_part, has_head, change_below};
 ghost use Rattle.doc_update.specs.Updates.{after_changes};
 

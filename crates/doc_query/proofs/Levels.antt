@@ -7,7 +7,7 @@ use Rattle.doc_value.specs.declared.value.Value.TheOpen.{Value-F}
 use Rattle.doc_value.specs.declared.value.Value.TheViews.{roll-out-Value}
 use Rattle.doc_query.specs.Conditions.{Truth, passing_step, passes_all, beside_truth}
 use Rattle.doc_query.specs.Meaning.{TruthAs, holding_step, holds_as, beside_meaning}
-use Rattle.doc_query.specs.Reading.{Place, FaultAt, fault_step, fault_at, beside_fault}
+use Rattle.doc_query.specs.Syntax.{Place, FaultAt, fault_step, fault_at, beside_fault}
 
 one_level : (A : Type 0) (step : Value-F (Value × A) → A) (value : Value)
     → para-Value A step value ≡ step (map-Value Value (Value × A) (λ inner. (inner, para-Value A step inner)) (out-Value value))

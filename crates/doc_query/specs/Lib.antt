@@ -1,4 +1,4 @@
 pub mod Operators
-pub mod Reading
+pub mod Syntax
 pub mod Conditions
 pub mod Meaning

@@ -1,5 +1,5 @@
 ghost use Rattle.std.specs.Prelude.{◌≡◌, ◌≢◌, true, IfOk, Ok, Err};
-ghost use Rattle.doc_query.specs.Reading.{is_query, query_in};
+ghost use Rattle.doc_query.specs.Syntax.{is_query, query_in};
 
 use crate::fault::QueryFault;
 use crate::reading::check_query;
@@ -17,7 +17,7 @@ impl Model for Query {
     ghost use Rattle.std.specs.Prelude.{◌≡◌, true};
     ghost use Rattle.doc_value.specs.declared.value.Value.{Value as Tree};
     ghost use Rattle.doc_value.specs.contracts.value.Value as value;
-    ghost use Rattle.doc_query.specs.Reading.{is_query};
+    ghost use Rattle.doc_query.specs.Syntax.{is_query};
 
     ghost Value = { Tree };
 

@@ -3,7 +3,7 @@ ghost use Rattle.std.specs.Prelude.{◌≡◌, map};
 ghost use Rattle.doc_value.specs.Fields.{judged};
 ghost use Rattle.doc_value.specs.declared.value.Value.{out-Value};
 ghost use Rattle.doc_query.specs.Operators.{operator_named, logic_named, is_operand};
-ghost use Rattle.doc_query.specs.Reading.{as_query, as_queries, as_member, as_condition, as_negated, operator_fault, operators_fault, condition_fault, logic_fault, path_fault, name_fault, names_fault, members_fault, queries_fault, negated_fault, fault_at, beside_fault, operand_fault, Reports};
+ghost use Rattle.doc_query.specs.Syntax.{as_query, as_queries, as_member, as_condition, as_negated, operator_fault, operators_fault, condition_fault, logic_fault, path_fault, name_fault, names_fault, members_fault, queries_fault, negated_fault, fault_at, beside_fault, operand_fault, Reports};
 
 use crate::fault::QueryFault;
 use crate::operator::{Logic, Operator, are_all_operators, has_operator, is_operator};

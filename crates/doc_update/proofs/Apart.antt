@@ -13,7 +13,7 @@ use Rattle.doc_value.specs.Paths.{parts_of}
 use Rattle.doc_update.specs.Changes.{Change, change_of, changes_under, changes_in, changes_of, fields_of, fields_within}
 use Rattle.doc_update.specs.Conflicts.{conflict, first_conflict, first_conflict_after, are_apart}
 use Rattle.doc_update.specs.Operators.{operator_named}
-use Rattle.doc_update.specs.Reading.{is_update, unless_fault, fault_in, fault_of_shape, fault_among, fault_of_operators, conflict_fault, are_operators, is_empty, some_empty}
+use Rattle.doc_update.specs.Syntax.{is_update, unless_fault, fault_in, fault_of_shape, fault_among, fault_of_operators, conflict_fault, are_operators, is_empty, some_empty}
 use Rattle.doc_update.specs.declared.fault.UpdateFault.{UpdateFault}
 use Rattle.doc_update.specs.declared.operator.Operator.{Operator}
 use Rattle.doc_update.proofs.Reordering.{paths_conflict-turned}

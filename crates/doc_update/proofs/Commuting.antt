@@ -7,7 +7,7 @@ use Rattle.doc_value.specs.declared.value.Named.{Named}
 use Rattle.doc_value.specs.declared.value.Value.{Value, Object}
 use Rattle.doc_update.specs.Conflicts.{paths_conflict}
 use Rattle.doc_update.specs.Places.{is_open, part_of, placed, changed, with_field}
-use Rattle.doc_update.specs.Reading.{is_object}
+use Rattle.doc_update.specs.Syntax.{is_object}
 use Rattle.doc_update.proofs.Steps.{Effect, by_steps}
 use Rattle.doc_value.proofs.NameOrder.{bytes_eq-turned}
 use Rattle.doc_update.proofs.PlacedLaws.{placed-Object, placed-closed, placed-unfit, by_kind, put_there, put_fits}

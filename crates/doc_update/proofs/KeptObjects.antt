@@ -5,11 +5,11 @@ use Rattle.std.proofs.lemmas.Bool.{true≢false, and_parts}
 use Rattle.std.proofs.lemmas.Bool.Decides.{nat_tests}
 use Rattle.std.proofs.lemmas.Option.{same_Some}
 use Rattle.doc_value.specs.declared.value.Value.{Value}
-use Rattle.doc_value.specs.Nesting.{nesting}
+use Rattle.doc_value.specs.Depth.{nesting}
 use Rattle.doc_update.specs.Changes.{Change, changes_of, fields_of}
 use Rattle.doc_update.specs.Effects.{effect}
 use Rattle.doc_update.specs.Places.{is_open, changed}
-use Rattle.doc_update.specs.Reading.{is_object}
+use Rattle.doc_update.specs.Syntax.{is_object}
 use Rattle.doc_update.specs.Updates.{after_change, after_changes, if_body, is_too_deep, body_after, updated}
 use Rattle.doc_update.proofs.Apart.{have_paths, has_path}
 use Rattle.doc_update.proofs.Commuting.{changed_there}

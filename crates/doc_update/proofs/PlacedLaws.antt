@@ -11,7 +11,7 @@ use Rattle.doc_value.specs.declared.value.Value.TheViews.{roll-Value, roll-out-V
 use Rattle.doc_value.specs.Paths.{field_named, field_in}
 use Rattle.doc_update.specs.Changes.{fields_within, fields_of}
 use Rattle.doc_update.specs.Places.{is_open, with_field, part_of, placed, placed_in}
-use Rattle.doc_update.specs.Reading.{is_object_layer, is_object}
+use Rattle.doc_update.specs.Syntax.{is_object_layer, is_object}
 use Rattle.doc_update.proofs.FieldLaws.{named-own, named-others}
 use Rattle.doc_update.proofs.Facts.{inner, no_some}
 

@@ -5,7 +5,7 @@ use Rattle.std.proofs.lemmas.Bool.{true≢false}
 use Rattle.doc_value.specs.declared.value.Named.{Named}
 use Rattle.doc_value.specs.declared.value.Value.{Value, Object}
 use Rattle.doc_update.specs.Places.{with_field, placed}
-use Rattle.doc_update.specs.Reading.{is_object}
+use Rattle.doc_update.specs.Syntax.{is_object}
 use Rattle.doc_update.proofs.FieldOrder.{with-again, with-commute}
 use Rattle.doc_value.proofs.NameOrder.{bytes_eq-turned}
 use Rattle.doc_update.proofs.PlacedLaws.{placed-Object, placed-closed, placed-unfit, by_kind}

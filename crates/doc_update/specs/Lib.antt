@@ -3,6 +3,6 @@ pub mod Effects
 pub mod Places
 pub mod Changes
 pub mod Conflicts
-pub mod Reading
+pub mod Syntax
 pub mod Updates
 pub mod Listed

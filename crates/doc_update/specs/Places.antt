@@ -6,7 +6,7 @@ use Rattle.doc_value.specs.declared.value.Named.{Named}
 use Rattle.doc_value.specs.declared.value.Value.{Value, Object, out-Value}
 use Rattle.doc_value.specs.declared.value.Value.TheOpen.{Value-F}
 use Rattle.doc_value.specs.Paths.{field_in}
-use Rattle.doc_update.specs.Reading.{is_object}
+use Rattle.doc_update.specs.Syntax.{is_object}
 
 abbrev pub is_below : List ℕ → Named Value → Bool
 is_below name field = is_lt (slice_cmp nat_cmp field.name name)

@@ -1,7 +1,7 @@
 -- The body after an update.
 use Rattle.std.specs.Prelude.{Bool, List, [], ◌∷◌, nat_lt, Option, Some, None, option_and_then, if◌then◌else◌}
 use Rattle.doc_value.specs.declared.value.Value.{Value}
-use Rattle.doc_value.specs.Nesting.{nesting}
+use Rattle.doc_value.specs.Depth.{nesting}
 use Rattle.doc_update.specs.Changes.{Change, changes_of}
 use Rattle.doc_update.specs.Effects.{effect}
 use Rattle.doc_update.specs.Places.{changed}

@@ -1,11 +1,11 @@
 //! Laws of the definitions, each the contract of a call that does nothing.
 ghost use Rattle.std.specs.Prelude.{◌≡◌, ◌≤◌, IfSome, List, Option, true};
 ghost use Rattle.std.specs.List.Sorted.{IsPermutation};
-ghost use Rattle.doc_value.specs.Nesting.{nesting};
+ghost use Rattle.doc_value.specs.Depth.{nesting};
 ghost use Rattle.doc_value.specs.declared.value.Value.{Value};
 ghost use Rattle.doc_update.specs.Changes.{Change, changes_of};
 ghost use Rattle.doc_update.specs.Conflicts.{are_apart};
-ghost use Rattle.doc_update.specs.Reading.{is_object, is_update};
+ghost use Rattle.doc_update.specs.Syntax.{is_object, is_update};
 ghost use Rattle.doc_update.specs.Updates.{after_changes, updated};
 
 /// Changes that don't conflict have the same effect in every order, and those of an update don't.

@@ -1,5 +1,5 @@
 ghost use Rattle.std.specs.Prelude.{◌≡◌, ◌≢◌, IfOk, Ok};
-ghost use Rattle.doc_update.specs.Reading.{fault_of_shape, conflict_fault, fault_of_change, fault_of_changes, fault_of_operators, fault_under};
+ghost use Rattle.doc_update.specs.Syntax.{fault_of_shape, conflict_fault, fault_of_change, fault_of_changes, fault_of_operators, fault_under};
 ghost use Rattle.doc_update.specs.Changes.{fields_of, changes_in};
 ghost use Rattle.doc_update.specs.Conflicts.{first_conflict};
 ghost use Rattle.doc_update.specs.Operators.{operator_named};

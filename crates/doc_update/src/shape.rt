@@ -4,7 +4,7 @@ ghost use Rattle.std.specs.Option.{option_copied};
 ghost use Rattle.doc_value.specs.declared.value.Value.{out-Value};
 ghost use Rattle.doc_value.specs.Names.{is_operator_name};
 ghost use Rattle.doc_update.specs.Changes.{fields_of};
-ghost use Rattle.doc_update.specs.Reading.{is_object, are_operators, some_empty};
+ghost use Rattle.doc_update.specs.Syntax.{is_object, are_operators, some_empty};
 
 use doc_value::{Field, Value};
 

@@ -1,5 +1,5 @@
 ghost use Rattle.std.specs.Prelude.{◌≡◌, ◌≢◌, IfOk, true, Err};
-ghost use Rattle.doc_update.specs.Reading.{is_update, update_in};
+ghost use Rattle.doc_update.specs.Syntax.{is_update, update_in};
 
 use crate::fault::UpdateFault;
 use crate::read::fault_among;
@@ -17,7 +17,7 @@ impl Model for Update {
     ghost use Rattle.std.specs.Prelude.{◌≡◌, true};
     ghost use Rattle.doc_value.specs.declared.value.Value.{Value as Tree};
     ghost use Rattle.doc_value.specs.contracts.value.Value as value;
-    ghost use Rattle.doc_update.specs.Reading.{is_update};
+    ghost use Rattle.doc_update.specs.Syntax.{is_update};
 
     ghost Value = { Tree };
 

@@ -6,7 +6,7 @@ use Rattle.doc_value.specs.declared.value.Named.{Named}
 use Rattle.doc_value.specs.declared.value.Value.{Value, Object, the_lemmas}
 use Rattle.doc_value.specs.declared.value.Value.TheOpen.{Value-F}
 use Rattle.doc_value.specs.Bodies.{first_refused, without_id, body_from, body_in, unless_refused}
-use Rattle.doc_value.specs.Nesting.{nesting}
+use Rattle.doc_value.specs.Depth.{nesting}
 use Rattle.doc_value.specs.Readable.{IsReadable}
 use Rattle.doc_value.proofs.Levels.{nesting-Object, names-Object, ordered-Object, sound-Object}
 use Rattle.doc_value.proofs.BodyFields.{without_id-again, first_refused-without_id, nesting-without_id, names-without_id, sound-without_id, order-without_id}

@@ -12,7 +12,7 @@ use Rattle.doc_value.specs.Fields.{judged}
 use Rattle.doc_value.specs.Bodies.{refused_at_top, first_refused, without_id}
 use Rattle.doc_value.specs.JsonFaults.{is_bad_name}
 use Rattle.doc_value.specs.Names.{is_id_name}
-use Rattle.doc_value.specs.Nesting.{nesting, deepest_field}
+use Rattle.doc_value.specs.Depth.{nesting, deepest_field}
 use Rattle.doc_value.specs.Order.{precedes, is_ordered, fields_ordered}
 use Rattle.doc_value.specs.Readable.{holds_bad_name, some_field_bad}
 use Rattle.doc_value.specs.Sound.{is_sound, fields_sound}

@@ -14,7 +14,7 @@ use Rattle.serde_json.specs.Read.{number_of, of_json, of_items, of_members, max_
 use Rattle.serde_json.specs.Written.{number_text, outline, items_outline, members_outline, compact_text}
 use Rattle.serde_json.proofs.Numbers.{number_of-decimal, number_of-negative}
 use Rattle.serde_json.proofs.Texts.{print-outline}
-use Rattle.doc_value.specs.Reading.{json_in}
+use Rattle.doc_value.specs.Syntax.{json_in}
 use Rattle.doc_value.specs.Sound.{fits_64_bits}
 use Rattle.doc_value.proofs.JsonOrder.{IsBelow, InOrder, ItemsInOrder, MembersInOrder}
 use Rattle.doc_value.proofs.PlainJson.{IsPlain, ItemsArePlain, MembersArePlain, numbers-outline, depth-outline}

@@ -8,7 +8,7 @@ use Rattle.doc_value.specs.declared.value.Value.{the_lemmas}
 use Rattle.doc_value.specs.Fields.{judged}
 use Rattle.doc_value.specs.JsonFaults.{is_bad_name, has_bad_name, some_item_has_bad_name, some_member_has_bad_name}
 use Rattle.doc_value.specs.JsonValue.{value_of, values_of, fields_of}
-use Rattle.doc_value.specs.Nesting.{nesting, deepest, deepest_field}
+use Rattle.doc_value.specs.Depth.{nesting, deepest, deepest_field}
 use Rattle.doc_value.specs.Order.{precedes, is_ordered, all_ordered, fields_ordered}
 use Rattle.doc_value.specs.Readable.{holds_bad_name, some_bad, some_field_bad}
 use Rattle.doc_value.proofs.Levels.{nesting-List, nesting-Object, names-List, names-Object, ordered-List, ordered-Object}

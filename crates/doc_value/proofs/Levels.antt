@@ -3,7 +3,7 @@ use Rattle.std.proofs.Common.{◌≡◌, suc, List, map, rules}
 use Rattle.doc_value.specs.declared.value.Named.{Named}
 use Rattle.doc_value.specs.declared.value.Value.{Value, List as Items_of, Object, the_lemmas}
 use Rattle.doc_value.specs.Fields.{judged}
-use Rattle.doc_value.specs.Nesting.{nesting, deepest, deepest_field}
+use Rattle.doc_value.specs.Depth.{nesting, deepest, deepest_field}
 use Rattle.doc_value.specs.Order.{is_ordered, all_ordered, fields_ordered}
 use Rattle.doc_value.specs.Readable.{holds_bad_name, some_bad, some_field_bad}
 use Rattle.doc_value.specs.Sound.{is_sound, fields_sound}

@@ -15,7 +15,7 @@ use Rattle.doc_value.specs.declared.value.Value.{Value, Bool as Truth, Int, List
 use Rattle.doc_value.specs.Fields.{judged}
 use Rattle.doc_value.specs.JsonFaults.{is_whole, items_are_whole, members_are_whole}
 use Rattle.doc_value.specs.JsonValue.{value_of, values_of, fields_of}
-use Rattle.doc_value.specs.Printing.{compact, items_text, fields_text}
+use Rattle.doc_value.specs.Texts.{compact, items_text, fields_text}
 use Rattle.doc_value.specs.Sound.{fits_64_bits}
 
 -- a whole number of 64 bits, as serde_json keeps it

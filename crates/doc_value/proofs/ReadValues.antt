@@ -7,7 +7,7 @@ use Rattle.serde_json.specs.Read.{read}
 use Rattle.doc_value.specs.JsonFaults.{has_bad_name}
 use Rattle.doc_value.specs.JsonValue.{value_of}
 use Rattle.doc_value.specs.Readable.{IsReadable}
-use Rattle.doc_value.specs.Reading.{json_in}
+use Rattle.doc_value.specs.Syntax.{json_in}
 use Rattle.doc_value.specs.Sound.{is_sound}
 use Rattle.doc_value.proofs.JsonOrder.{InOrder, InOrder-read}
 use Rattle.doc_value.proofs.JsonLevels.{nesting-value_of, bad-value_of, ordered-value_of}

@@ -6,11 +6,11 @@ use Rattle.serde_json.specs.Written.{compact_text}
 use Rattle.doc_value.specs.declared.value.Value.{Value}
 use Rattle.doc_value.specs.JsonFaults.{has_bad_name, is_whole}
 use Rattle.doc_value.specs.JsonValue.{value_of}
-use Rattle.doc_value.specs.Nesting.{nesting}
+use Rattle.doc_value.specs.Depth.{nesting}
 use Rattle.doc_value.specs.Order.{is_ordered}
-use Rattle.doc_value.specs.Printing.{compact}
+use Rattle.doc_value.specs.Texts.{compact}
 use Rattle.doc_value.specs.Readable.{IsReadable, holds_bad_name}
-use Rattle.doc_value.specs.Reading.{value_from, value_in, json_in}
+use Rattle.doc_value.specs.Syntax.{value_from, value_in, json_in}
 use Rattle.doc_value.specs.Sound.{is_sound}
 use Rattle.doc_value.proofs.JsonLevels.{nesting-value_of, bad-value_of, InOrder-is_ordered}
 use Rattle.doc_value.proofs.PlainJson.{IsPlain, whole-plain, compact-value_of}

@@ -4,7 +4,7 @@ use Rattle.std.specs.Str.{is_utf8}
 use Rattle.std.proofs.lemmas.Str.{IsUtf8-from_is_utf8, is_utf8-from_IsUtf8}
 use Rattle.serde_json.specs.Read.{read}
 use Rattle.doc_value.specs.declared.fault.PathFault.TheVariants.{BadPart}
-use Rattle.doc_value.specs.Reading.{json_in}
+use Rattle.doc_value.specs.Syntax.{json_in}
 use Rattle.doc_value.specs.Paths.{path_in, path_of, parts_of}
 
 pub json_in-text : (bytes : List ℕ) → IsUtf8 bytes → json_in bytes ≡ read bytes

@@ -9,7 +9,7 @@ use Rattle.doc_value.specs.declared.value.Value.{Value, Object, out-Value, fold-
 use Rattle.doc_value.specs.declared.value.Value.TheOpen.{Value-F}
 use Rattle.doc_value.specs.Ids.{is_value_of_id}
 use Rattle.doc_value.specs.Names.{is_id_name, is_transaction_name, is_refused_name}
-use Rattle.doc_value.specs.Nesting.{nesting}
+use Rattle.doc_value.specs.Depth.{nesting}
 
 -- ---- the first refused name in the order of a walk: a name, the names inside its value, the next name
 

@@ -1,9 +1,9 @@
 pub mod Fields
 pub mod JsonFaults
 pub mod JsonValue
-pub mod Reading
-pub mod Printing
-pub mod Nesting
+pub mod Syntax
+pub mod Texts
+pub mod Depth
 pub mod Names
 pub mod Ids
 pub mod Bodies

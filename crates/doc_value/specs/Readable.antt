@@ -4,7 +4,7 @@ use Rattle.doc_value.specs.declared.value.Named.{Named}
 use Rattle.doc_value.specs.declared.value.Value.{Value, fold-Value}
 use Rattle.doc_value.specs.declared.value.Value.TheOpen.{Value-F}
 use Rattle.doc_value.specs.JsonFaults.{is_bad_name}
-use Rattle.doc_value.specs.Nesting.{nesting}
+use Rattle.doc_value.specs.Depth.{nesting}
 use Rattle.doc_value.specs.Order.{is_ordered}
 use Rattle.doc_value.specs.Sound.{is_sound}
 

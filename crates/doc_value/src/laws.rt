@@ -1,8 +1,8 @@
 //! Laws of the definitions, each the contract of a call that does nothing.
 ghost use Rattle.std.specs.Prelude.{◌≡◌, ◌↔◌, IsTrue, Ok};
-ghost use Rattle.doc_value.specs.Printing.{compact};
+ghost use Rattle.doc_value.specs.Texts.{compact};
 ghost use Rattle.doc_value.specs.Readable.{IsReadable};
-ghost use Rattle.doc_value.specs.Reading.{value_in};
+ghost use Rattle.doc_value.specs.Syntax.{value_in};
 ghost use Rattle.doc_value.specs.Same.{same};
 ghost use Rattle.doc_value.specs.declared.value.Value.{Value};
 

@@ -1,6 +1,6 @@
 ghost use Rattle.std.specs.Prelude.{◌≡◌, map, nat_lt};
 ghost use Rattle.doc_value.specs.Fields.{judged};
-ghost use Rattle.doc_value.specs.Nesting.{nesting, deepest, deepest_field};
+ghost use Rattle.doc_value.specs.Depth.{nesting, deepest, deepest_field};
 
 use crate::value::{Field, Value};
 

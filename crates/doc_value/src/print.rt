@@ -5,12 +5,12 @@ ghost use Rattle.std.specs.Fmt.{signed_decimal};
 ghost use Rattle.json.specs.Print.{escape, escape_byte, quoted};
 ghost use Rattle.serde_json.specs.Written.{comma_if};
 ghost use Rattle.doc_value.specs.Fields.{judged};
-ghost use Rattle.doc_value.specs.Nesting.{nesting};
+ghost use Rattle.doc_value.specs.Depth.{nesting};
 ghost use Rattle.doc_value.specs.Order.{is_ordered};
 ghost use Rattle.doc_value.specs.Readable.{holds_bad_name};
-ghost use Rattle.doc_value.specs.Reading.{value_in};
+ghost use Rattle.doc_value.specs.Syntax.{value_in};
 ghost use Rattle.doc_value.specs.Sound.{is_sound, all_sound, fields_sound, fits_64_bits};
-ghost use Rattle.doc_value.specs.Printing.{compact, items_text, fields_text};
+ghost use Rattle.doc_value.specs.Texts.{compact, items_text, fields_text};
 
 use crate::text::OutOfMemory;
 use crate::value::{Field, Value};

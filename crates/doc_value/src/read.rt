@@ -7,7 +7,7 @@ ghost use Rattle.doc_value.specs.JsonFaults.{has_bad_name, some_item_has_bad_nam
 ghost use Rattle.doc_value.specs.JsonValue.{value_of, values_of, fields_of};
 ghost use Rattle.doc_value.specs.Sound.{is_sound, all_sound, fields_sound};
 ghost use Rattle.doc_value.specs.Readable.{IsReadable};
-ghost use Rattle.doc_value.specs.Reading.{json_in, value_in};
+ghost use Rattle.doc_value.specs.Syntax.{json_in, value_in};
 
 use crate::fault::ValueFault;
 use crate::text::{OutOfMemory, Text};

@@ -1,6 +1,6 @@
 pub mod Chains
 pub mod Placed
-pub mod Holding
+pub mod Held
 pub mod Alone
 pub mod Hits
 pub mod Trail

@@ -18,7 +18,7 @@ ghost use Rattle.store_laws.specs.View.{look, record_at, IsOn, held_number};
 ghost use Rattle.store_trait.specs.declared.edit.Edit.TheVariants as edit;
 ghost use Rattle.store_trait.specs.declared.name.Name.TheVariants as name;
 ghost use Rattle.store_laws.specs.Chains.{IsChainFrom};
-ghost use Rattle.store_laws.specs.Holding.{body_in};
+ghost use Rattle.store_laws.specs.Held.{body_in};
 
 /// On the keys of a ready prepared record the content means what the owners hold: nothing is pending
 /// there, so its tests can be made on the cells.

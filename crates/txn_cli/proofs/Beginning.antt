@@ -6,7 +6,7 @@ use Rattle.store_trait.specs.declared.store.Store.{Ghosts}
 use Rattle.txn_io.specs.Unread.{Unread}
 use Rattle.txn_runner.specs.Calm.{IsCalm}
 use Rattle.txn_play.specs.Batches.{MayRun}
-use Rattle.txn_play.specs.Leaving.{Stays}
+use Rattle.txn_play.specs.Remains.{Stays}
 use Rattle.txn_play.specs.Progress.{Progress, has_no_cell}
 use Rattle.txn_play.specs.Runs.{RunsGoOn}
 use Rattle.txn_play.specs.Sessions.{IsBetween, IsNew, at}

@@ -10,7 +10,7 @@ use Rattle.txn_script.specs.declared.fault.ScriptFault.{ScriptFault}
 use Rattle.txn_script.specs.declared.fault.ScriptFault.TheVariants as script_fault
 use Rattle.txn_script.specs.declared.statement.Statement.{Statement}
 use Rattle.txn_script.specs.declared.statement.Statement.TheVariants as statement
-use Rattle.txn_play.specs.Leaving.{Stays}
+use Rattle.txn_play.specs.Remains.{Stays}
 use Rattle.txn_play.specs.Progress.{Progress, Does, is_allowed, lets_run, runs_batch}
 use Rattle.txn_play.specs.Sessions.{HasEnough, IsCaused, at, holding}
 use Rattle.txn_play.proofs.Causing.{caused_before}

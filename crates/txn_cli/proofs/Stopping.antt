@@ -16,7 +16,7 @@ use Rattle.txn_script.specs.Statements.{line_in}
 use Rattle.txn_script.specs.declared.fault.ScriptFault.{ScriptFault}
 use Rattle.txn_script.specs.declared.statement.Statement.{Statement}
 use Rattle.txn_script.specs.declared.fault.ScriptFault.TheVariants as script_fault
-use Rattle.txn_play.specs.Leaving.{HasLeft, Holding, Stays}
+use Rattle.txn_play.specs.Remains.{HasLeft, Holding, Stays}
 use Rattle.txn_play.specs.Progress.{Progress, RunsItself, lets_run, runs_batch}
 use Rattle.txn_play.specs.Refusals.{IsUnspent}
 use Rattle.txn_play.specs.Sessions.{HasEnough, IsCaused, at, holding}

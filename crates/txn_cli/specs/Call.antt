@@ -7,7 +7,7 @@ use Rattle.store_trait.specs.declared.store.Store.{Ghosts}
 use Rattle.txn_io.specs.Lines.{IsPartTaken}
 use Rattle.txn_io.specs.declared.sink.Sink as sink
 use Rattle.txn_io.specs.declared.source.Source as source
-use Rattle.txn_play.specs.Leaving.{HasLeft, Holding, Stays}
+use Rattle.txn_play.specs.Remains.{HasLeft, Holding, Stays}
 use Rattle.txn_play.specs.Progress.{Progress, opening}
 use Rattle.txn_play.specs.Runs.{AreFaithful}
 use Rattle.txn_play.specs.declared.answer.Answer.{Answer}

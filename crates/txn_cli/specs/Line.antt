@@ -6,7 +6,7 @@ use Rattle.txn_script.specs.Statements.{line_in}
 use Rattle.txn_script.specs.declared.fault.ScriptFault.TheVariants.{NotBuilt}
 use Rattle.txn_script.specs.declared.statement.Statement.{Statement}
 use Rattle.txn_runner.specs.declared.waiting.Waiting.{Waiting}
-use Rattle.txn_play.specs.Leaving.{HasLeft, Stays}
+use Rattle.txn_play.specs.Remains.{HasLeft, Stays}
 use Rattle.txn_play.specs.Progress.{Progress, Does, RunsItself, runs_batch}
 use Rattle.txn_play.specs.Sessions.{IsCaused, at, holding}
 use Rattle.txn_play.specs.declared.answer.Answer.{Answer}

@@ -9,7 +9,7 @@ use Rattle.txn_key.specs.Documents.{Docs}
 use Rattle.txn_key.specs.Ids.{id_text, token_text}
 use Rattle.txn_record.specs.declared.state.State.{State}
 use Rattle.txn_record.specs.declared.state.State.TheVariants as state
-use Rattle.txn_script.specs.Printing.{document_line, key_text}
+use Rattle.txn_script.specs.Texts.{document_line, key_text}
 use Rattle.txn_play.specs.declared.answer.Answer.{Answer}
 use Rattle.txn_play.specs.declared.answer.Answer.TheVariants.{Nothing, States, Documents}
 use Rattle.txn_play.specs.declared.answer.RecordState.{RecordState}

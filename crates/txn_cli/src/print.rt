@@ -4,7 +4,7 @@ ghost use Rattle.std.specs.Prelude.{◌≡◌, ◌++◌, OnErr, OnOk, IfOk, true
 ghost use Rattle.std.specs.List.{flat_map};
 ghost use Rattle.txn_key.specs.Documents.{pairs_of};
 ghost use Rattle.txn_cli.specs.Output.{answer_text, fault_text, prints, state_line, state_word, step_text};
-ghost use Rattle.txn_script.specs.Printing.{document_line};
+ghost use Rattle.txn_script.specs.Texts.{document_line};
 
 use crate::fault::Fault;
 use doc_value::OutOfMemory;

@@ -1,6 +1,6 @@
 pub mod Ids
 pub mod Keys
-pub mod Reading
+pub mod Syntax
 pub mod Places
 pub mod KeySets
 pub mod Documents

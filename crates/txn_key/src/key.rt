@@ -3,7 +3,7 @@ ghost use Rattle.std.specs.Cmp.{IsTotalOrder};
 ghost use Rattle.std.specs.FinMap.{IsAntisymmetric};
 ghost use Rattle.doc_value.specs.declared.value.Value.{out-Value};
 ghost use Rattle.txn_key.specs.Keys.{key_cmp};
-ghost use Rattle.txn_key.specs.Reading.{is_collection, is_text_id, doc_id_of, key_in};
+ghost use Rattle.txn_key.specs.Syntax.{is_collection, is_text_id, doc_id_of, key_in};
 
 use doc_value::{DocId, OutOfMemory, Text, Value};
 use std::alloc::Global;

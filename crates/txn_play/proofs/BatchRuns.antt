@@ -6,7 +6,7 @@ use Rattle.store_trait.specs.Contents.{Content}
 use Rattle.store_laws.specs.Meaning.{meaning}
 use Rattle.store_laws.specs.Soundness.{IsSound}
 use Rattle.txn_play.specs.Batches.{MayRun, WorksOnBatch, IsDoneWith, MayBegin, HasOutcome, StandsIn, LeavesRecords}
-use Rattle.txn_play.specs.Leaving.{HasBegun, HasLeft, Holding, LeavesUnfinished, Stays}
+use Rattle.txn_play.specs.Remains.{HasBegun, HasLeft, Holding, LeavesUnfinished, Stays}
 use Rattle.txn_play.specs.Progress.{RanBatch, HasRunBatch}
 use Rattle.txn_play.specs.Refusals.{IsOfRun}
 use Rattle.txn_play.specs.declared.refusal.Refusal.{Refusal}

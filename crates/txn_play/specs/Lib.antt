@@ -1,6 +1,6 @@
 pub mod Batches
 pub mod Index
-pub mod Leaving
+pub mod Remains
 pub mod Progress
 pub mod Refusals
 pub mod Runs

@@ -5,7 +5,7 @@ use Rattle.store_trait.specs.Stores.{CallsGoOn}
 use Rattle.store_trait.specs.declared.store.Store.{Ghosts}
 use Rattle.txn_runner.specs.Numbers.{Suffices}
 use Rattle.txn_play.specs.Batches.{MayRun}
-use Rattle.txn_play.specs.Leaving.{Holding}
+use Rattle.txn_play.specs.Remains.{Holding}
 use Rattle.txn_play.specs.Progress.{Progress}
 use Rattle.txn_play.specs.Refusals.{HasCause, HasReason, IsUnspent}
 use Rattle.txn_play.specs.Runs.{RunsGoOn}

@@ -1,7 +1,7 @@
 //! A script as it is played: what each statement does to the store, and what it answers.
 
 ghost use Rattle.std.specs.Prelude.{◌≡◌, [], true, false, Err, IsTrue, IfOk, OnOk, IfErr, IsErrOf};
-ghost use Rattle.txn_play.specs.Leaving.{HasLeft};
+ghost use Rattle.txn_play.specs.Remains.{HasLeft};
 ghost use Rattle.txn_play.specs.Progress.{is_allowed, lets_run, runs_batch, Does, RunsBatch};
 ghost use Rattle.txn_play.specs.Sessions.{IsCaused, IsKept, Stands, at, holding};
 ghost use Rattle.txn_script.specs.declared.statement.Statement.TheVariants as statement;

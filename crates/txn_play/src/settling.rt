@@ -9,7 +9,7 @@ ghost use Rattle.txn_runner.specs.Numbers.{Suffices, Uses};
 ghost use Rattle.txn_runner.specs.Settling.{settled_state};
 ghost use Rattle.txn_play.specs.Progress.{HasRunBatch};
 ghost use Rattle.txn_play.specs.Refusals.{IsOfRun, IsUnspent, HasCause, HasReason};
-ghost use Rattle.txn_play.specs.Leaving.{HasLeft, LeavesUnfinished};
+ghost use Rattle.txn_play.specs.Remains.{HasLeft, LeavesUnfinished};
 ghost use Rattle.txn_play.specs.Runs.{RunsGoOn};
 ghost use Rattle.txn_record.specs.declared.entry.Entry.{Entry as LogEntry};
 

@@ -3,12 +3,12 @@ use Rattle.std.proofs.Common.{◌≡◌, ℕ, zero, suc, Bool, true, false, ◌&
 use Rattle.std.specs.List.{All}
 use Rattle.std.proofs.lemmas.List.{length-map}
 use Rattle.std.proofs.lemmas.Bool.Decides.{nat_tests}
-use Rattle.doc_query.specs.Reading.{query_in, is_query, FaultAt, fault_at, as_query, fault_step, unless_faulty, beside_fault}
+use Rattle.doc_query.specs.Syntax.{query_in, is_query, FaultAt, fault_at, as_query, fault_step, unless_faulty, beside_fault}
 use Rattle.doc_query.specs.declared.fault.QueryFault.{QueryFault}
-use Rattle.doc_update.specs.Reading.{update_in, unless_fault as unless_update_fault, fault_in}
+use Rattle.doc_update.specs.Syntax.{update_in, unless_fault as unless_update_fault, fault_in}
 use Rattle.doc_update.specs.declared.fault.UpdateFault.{UpdateFault}
 use Rattle.doc_value.specs.Bodies.{body_from}
-use Rattle.doc_value.specs.Nesting.{nesting}
+use Rattle.doc_value.specs.Depth.{nesting}
 use Rattle.doc_value.specs.Paths.{field_named, field_in}
 use Rattle.doc_value.specs.declared.doc_id.DocId.{DocId}
 use Rattle.doc_value.specs.declared.doc_id.DocId.TheVariants as doc_id
@@ -16,9 +16,9 @@ use Rattle.doc_value.specs.declared.value.Named.{Named}
 use Rattle.doc_value.specs.declared.value.Value.{Value, Bool as Truth, Int, Text, List as Items_of, Object, out-Value, map-Value, para-Value, para-roll-Value, the_lemmas}
 use Rattle.doc_value.specs.declared.value.Value.TheOpen.{Value-F}
 use Rattle.doc_value.specs.declared.value.Value.TheViews.{roll-out-Value}
-use Rattle.txn_key.specs.Reading.{holds_byte, is_collection, collection_of, doc_id_of, key_with}
-use Rattle.txn_record.specs.Printing.{id_value, assert_value, insert_value, remove_value, update_value, field_of, op_fields, op_value, ops_value}
-use Rattle.txn_record.specs.Reading.{collection_field, id_field, assert_field, insert_field, update_field, remove_field, are_fields, has_form, is_text, is_truth, is_true, is_there, if_there, is_the_text, is_empty_text, is_null, is_missing_or_absent, is_too_deep, or_bad_key, key_of, has_only_fields, has_several_changes, fault_of_parts, change_of, assert_of, or_bad_assert, or_bad_update, or_bad_insert, op_in, op_at, op_of_parts, op_of, unless_fault, ops_in, ops_of_list, ops_from, numbered, before}
+use Rattle.txn_key.specs.Syntax.{holds_byte, is_collection, collection_of, doc_id_of, key_with}
+use Rattle.txn_record.specs.Values.{id_value, assert_value, insert_value, remove_value, update_value, field_of, op_fields, op_value, ops_value}
+use Rattle.txn_record.specs.Syntax.{collection_field, id_field, assert_field, insert_field, update_field, remove_field, are_fields, has_form, is_text, is_truth, is_true, is_there, if_there, is_the_text, is_empty_text, is_null, is_missing_or_absent, is_too_deep, or_bad_key, key_of, has_only_fields, has_several_changes, fault_of_parts, change_of, assert_of, or_bad_assert, or_bad_update, or_bad_insert, op_in, op_at, op_of_parts, op_of, unless_fault, ops_in, ops_of_list, ops_from, numbered, before}
 use Rattle.txn_record.specs.Transactions.{IsBody, IsTransaction, IsSoundOp, IsSoundAssert, IsSoundChange, is_doc_id, is_shallow, go_together, may_insert, asks}
 use Rattle.txn_record.specs.declared.fault.OpFault.{OpFault}
 use Rattle.std.specs.Str.{bytes_eq}

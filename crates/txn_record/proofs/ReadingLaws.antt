@@ -2,7 +2,7 @@
 use Rattle.std.proofs.Common.{◌≡◌, ℕ, suc, ◌+◌, List, [], ◌∷◌, ◌++◌, Result, Ok, Err, refl, ap, sym, ◌∙◌, ◌<◌, length, drop, get_or, arith, append_assoc}
 use Rattle.std.proofs.lemmas.List.{at_drop_more}
 use Rattle.doc_value.specs.declared.value.Value.{Value}
-use Rattle.txn_record.specs.Reading.{op_in, numbered, before, ops_from}
+use Rattle.txn_record.specs.Syntax.{op_in, numbered, before, ops_from}
 use Rattle.txn_record.specs.declared.fault.OpsFault.{OpsFault}
 use Rattle.txn_record.specs.declared.op.Op.{Op}
 

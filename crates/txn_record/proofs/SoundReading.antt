@@ -2,18 +2,18 @@
 use Rattle.std.proofs.Common.{◌≡◌, ℕ, Bool, true, false, ◌||◌, not, List, codes, Option, Some, None, is_none, is_ok, Result, Ok, Err, option_and_then, if◌then◌else◌, true≢false, sym, ap, ◌∙◌, refl, subst}
 use Rattle.std.specs.Str.{bytes_eq}
 use Rattle.std.proofs.lemmas.Slice.Eq.{bytes_eq-Decides}
-use Rattle.doc_query.specs.Reading.{query_in, fault_at, as_query, unless_faulty}
+use Rattle.doc_query.specs.Syntax.{query_in, fault_at, as_query, unless_faulty}
 use Rattle.doc_query.specs.declared.fault.QueryFault.{QueryFault}
-use Rattle.doc_update.specs.Reading.{update_in, unless_fault as unless_update_fault, fault_in}
+use Rattle.doc_update.specs.Syntax.{update_in, unless_fault as unless_update_fault, fault_in}
 use Rattle.doc_update.specs.declared.fault.UpdateFault.{UpdateFault}
 use Rattle.doc_value.specs.Bodies.{body_in}
 use Rattle.doc_value.specs.declared.doc_id.DocId.{DocId}
 use Rattle.doc_value.specs.declared.fault.BodyFault.{BodyFault}
 use Rattle.doc_value.specs.declared.value.Value.{Value, out-Value}
 use Rattle.doc_value.specs.declared.value.Value.TheOpen.{Value-F}
-use Rattle.txn_key.specs.Reading.{is_collection, is_text_id, collection_of, doc_id_of, key_with, key_in}
+use Rattle.txn_key.specs.Syntax.{is_collection, is_text_id, collection_of, doc_id_of, key_with, key_in}
 use Rattle.txn_key.specs.declared.key.Key.{Key}
-use Rattle.txn_record.specs.Reading.{key_of, is_the_text, is_missing_or_absent, is_too_deep, fault_of_parts, change_of, assert_of, or_bad_insert, or_bad_update, or_bad_assert, is_empty_text, is_null}
+use Rattle.txn_record.specs.Syntax.{key_of, is_the_text, is_missing_or_absent, is_too_deep, fault_of_parts, change_of, assert_of, or_bad_insert, or_bad_update, or_bad_assert, is_empty_text, is_null}
 use Rattle.txn_record.specs.Transactions.{is_doc_id, is_shallow, InsertsBody, IsSoundAssert, IsSoundChange, IsSoundOp, go_together, may_insert, asks}
 use Rattle.txn_record.specs.declared.fault.OpFault.TheVariants.{SeveralChanges, NothingSet, InsertAssert, TooDeep}
 use Rattle.txn_record.specs.declared.op.Assert.{Assert}

@@ -2,8 +2,8 @@ pub mod Transactions
 pub mod States
 pub mod Effects
 pub mod Orders
-pub mod Reading
-pub mod Printing
+pub mod Syntax
+pub mod Values
 pub mod Revnos
 pub mod Chain
 pub mod Walks

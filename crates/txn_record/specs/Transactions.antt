@@ -1,14 +1,14 @@
 -- What a list of operations is when it is a transaction.
 use Rattle.std.specs.Prelude.{◌≡◌, ◌≤◌, Bool, true, false, not, nat_lt, List, length, Ok}
 use Rattle.std.specs.List.{All}
-use Rattle.doc_query.specs.Reading.{is_query}
-use Rattle.doc_update.specs.Reading.{is_update}
+use Rattle.doc_query.specs.Syntax.{is_query}
+use Rattle.doc_update.specs.Syntax.{is_update}
 use Rattle.doc_value.specs.Bodies.{body_in}
-use Rattle.doc_value.specs.Nesting.{nesting}
+use Rattle.doc_value.specs.Depth.{nesting}
 use Rattle.doc_value.specs.declared.doc_id.DocId.{DocId}
 use Rattle.doc_value.specs.declared.doc_id.DocId.TheVariants.{Text, Int}
 use Rattle.doc_value.specs.declared.value.Value.{Value}
-use Rattle.txn_key.specs.Reading.{is_collection, is_text_id}
+use Rattle.txn_key.specs.Syntax.{is_collection, is_text_id}
 use Rattle.txn_record.specs.declared.op.Assert.{Assert}
 use Rattle.txn_record.specs.declared.op.Assert.TheVariants as assertion
 use Rattle.txn_record.specs.declared.op.Change.{Change}

@@ -10,8 +10,8 @@ ghost use Rattle.txn_record.specs.Effects.{effect, effect_of, body_after, assert
 ghost use Rattle.txn_record.specs.Orders.{outcome_effect, after, is_right, has_entry, legal};
 ghost use Rattle.std.specs.List.{list_all};
 ghost use Rattle.txn_record.specs.Chain.{Numbers, keys_of, has_key, numbers_of, number_at, found_by, has_room};
-ghost use Rattle.txn_record.specs.Printing.{ops_value};
-ghost use Rattle.txn_record.specs.Reading.{ops_in};
+ghost use Rattle.txn_record.specs.Values.{ops_value};
+ghost use Rattle.txn_record.specs.Syntax.{ops_in};
 ghost use Rattle.txn_record.specs.Transactions.{IsTransaction};
 ghost use Rattle.txn_record.specs.Revnos.{first_on, follows, stays_within};
 

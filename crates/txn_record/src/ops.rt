@@ -1,8 +1,8 @@
 ghost use Rattle.std.specs.Prelude.{◌≡◌, ◌≢◌, ◌≤◌, length, map, IfOk, Err};
 ghost use Rattle.std.specs.List.{All};
 ghost use Rattle.txn_record.specs.Chain.{keys_of};
-ghost use Rattle.txn_record.specs.Printing.{op_value, ops_value};
-ghost use Rattle.txn_record.specs.Reading.{ops_in, ops_from, op_in, numbered};
+ghost use Rattle.txn_record.specs.Values.{op_value, ops_value};
+ghost use Rattle.txn_record.specs.Syntax.{ops_in, ops_from, op_in, numbered};
 ghost use Rattle.txn_record.specs.Transactions.{IsTransaction, IsSoundOp};
 
 use crate::fault::{OpsFault, Refusal};

@@ -1,6 +1,6 @@
 //! The value that an operation prints as.
 ghost use Rattle.std.specs.Prelude.{◌≡◌, ◌++◌, IfOk, OnOk};
-ghost use Rattle.txn_record.specs.Printing.{op_value, id_value, assert_value, insert_value, remove_value, update_value, field_of};
+ghost use Rattle.txn_record.specs.Values.{op_value, id_value, assert_value, insert_value, remove_value, update_value, field_of};
 
 use crate::op::{Assert, Change, Op};
 use doc_value::{DocId, Fields, Named, OutOfMemory, Text, Value};

@@ -1,11 +1,11 @@
 //! Reading of one operation.
 ghost use Rattle.std.specs.Prelude.{◌≡◌, IfOk};
 ghost use Rattle.std.specs.Option.{option_copied};
-ghost use Rattle.doc_query.specs.Reading.{query_in};
-ghost use Rattle.doc_update.specs.Reading.{update_in};
+ghost use Rattle.doc_query.specs.Syntax.{query_in};
+ghost use Rattle.doc_update.specs.Syntax.{update_in};
 ghost use Rattle.doc_value.specs.Bodies.{body_in};
 ghost use Rattle.doc_value.specs.declared.value.Value.{out-Value};
-ghost use Rattle.txn_record.specs.Reading.{Reads, op_in, has_form, has_only_fields, are_fields, is_field_name, collection_field, id_field, assert_field, insert_field, update_field, key_of, is_empty_text, is_removal, fault_of_parts, has_several_changes, is_missing_or_absent, is_some_too_deep, is_too_deep, is_the_text, change_of, assert_of, or_bad_insert, or_bad_update, or_bad_assert};
+ghost use Rattle.txn_record.specs.Syntax.{Reads, op_in, has_form, has_only_fields, are_fields, is_field_name, collection_field, id_field, assert_field, insert_field, update_field, key_of, is_empty_text, is_removal, fault_of_parts, has_several_changes, is_missing_or_absent, is_some_too_deep, is_too_deep, is_the_text, change_of, assert_of, or_bad_insert, or_bad_update, or_bad_assert};
 ghost use Rattle.txn_record.specs.Transactions.{IsSoundOp, InsertsBody};
 
 use crate::fault::{OpFault, Refusal};

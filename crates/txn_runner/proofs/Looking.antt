@@ -17,7 +17,7 @@ use Rattle.store_trait.specs.declared.cell.Cell.{Cell}
 use Rattle.store_trait.specs.declared.cell.DocCell.{DocCell}
 use Rattle.store_trait.specs.declared.name.Name.TheVariants as name
 use Rattle.store_laws.specs.Chains.{IsChainFrom}
-use Rattle.store_laws.specs.Holding.{body_in}
+use Rattle.store_laws.specs.Held.{body_in}
 use Rattle.store_laws.proofs.views.AmongSettled.{alone_ready}
 use Rattle.store_laws.proofs.chains.NumberAfter.{after_rises}
 use Rattle.store_laws.proofs.meanings.OneOperation.{tests_one, chain_one}

@@ -3,18 +3,18 @@ use Rattle.std.specs.Prelude.{ℕ, Bool, ◌||◌, ◌&&◌, ◌==◌, true, fal
 use Rattle.std.specs.List.{starts_with, list_all}
 use Rattle.std.specs.Str.{bytes_eq}
 use Rattle.doc_value.specs.Bodies.{body_in}
-use Rattle.doc_value.specs.Nesting.{nesting}
-use Rattle.doc_value.specs.Reading.{value_in}
+use Rattle.doc_value.specs.Depth.{nesting}
+use Rattle.doc_value.specs.Syntax.{value_in}
 use Rattle.doc_value.specs.declared.fault.BodyFault.{BodyFault}
 use Rattle.doc_value.specs.declared.fault.ValueFault.{ValueFault}
 use Rattle.doc_value.specs.declared.value.Named.{Named}
 use Rattle.doc_value.specs.declared.value.Value.{Value, out-Value}
 use Rattle.doc_value.specs.declared.value.Value.TheOpen.{Value-F}
 use Rattle.txn_key.specs.Ids.{id_of}
-use Rattle.txn_key.specs.Reading.{key_in}
+use Rattle.txn_key.specs.Syntax.{key_in}
 use Rattle.txn_key.specs.declared.id.TxnId.{TxnId}
 use Rattle.txn_key.specs.declared.key.Key.{Key}
-use Rattle.txn_record.specs.Reading.{ops_in}
+use Rattle.txn_record.specs.Syntax.{ops_in}
 use Rattle.txn_record.specs.declared.fault.OpsFault.{OpsFault}
 use Rattle.txn_record.specs.declared.op.Op.{Op}
 use Rattle.txn_script.specs.Faults.{fault_of_value, fault_of_ops}

@@ -1,7 +1,7 @@
 //! The texts that name and show what a store holds.
 
 ghost use Rattle.std.specs.Prelude.{◌≡◌, ◌++◌, OnOk};
-ghost use Rattle.txn_script.specs.Printing.{document_line, id_json, key_text};
+ghost use Rattle.txn_script.specs.Texts.{document_line, id_json, key_text};
 
 use doc_value::{DocId, OutOfMemory, Value, push_text, push_value};
 use txn_key::{Doc, Key};

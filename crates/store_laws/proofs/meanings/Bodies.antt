@@ -23,7 +23,7 @@ use Rattle.store_trait.specs.declared.name.Name.{Name}
 use Rattle.store_trait.specs.declared.name.Name.TheVariants as name
 use Rattle.store_trait.specs.declared.side.Side.{Side}
 use Rattle.store_trait.specs.declared.side.Side.TheVariants as side
-pub use Rattle.store_laws.specs.Holding.{body_in}
+pub use Rattle.store_laws.specs.Held.{body_in}
 use Rattle.store_laws.proofs.meanings.Runs.{same_key-equal}
 use Rattle.store_laws.proofs.meanings.Splits.{find_below, both}
 

@@ -26,7 +26,7 @@ use Rattle.store_laws.proofs.steps.DecidingMoves.{free_keys}
 use Rattle.store_laws.proofs.meanings.Effects.{meaning-free}
 use Rattle.store_laws.proofs.meanings.Runs.{same_key-itself}
 use Rattle.store_laws.specs.Chains.{IsChainFrom}
-use Rattle.store_laws.specs.Holding.{body_in}
+use Rattle.store_laws.specs.Held.{body_in}
 use Rattle.store_laws.proofs.cells.Parts.{parts}
 use Rattle.store_laws.proofs.cells.Under.{doc_under, stash_under}
 

@@ -12,7 +12,7 @@ use Rattle.store_laws.specs.View.{look, doc_at, owner_held}
 use Rattle.store_trait.specs.declared.cell.DocCell.{DocCell}
 use Rattle.store_trait.specs.declared.cell.StashCell.{StashCell}
 use Rattle.store_laws.specs.Alone.{IsAtRest}
-use Rattle.store_laws.specs.Holding.{body_in}
+use Rattle.store_laws.specs.Held.{body_in}
 use Rattle.store_laws.specs.Plain.{IsPlain, body_at}
 use Rattle.store_laws.proofs.meanings.Bodies.{get-bodies}
 use Rattle.store_laws.proofs.meanings.Idle.{NoneApplies, idle-none}

@@ -1,8 +1,8 @@
 use Rattle.std.proofs.Common.{ℕ, ◌<◌}
 use Rattle.cycle_order.proofs.choice.pick.Given as goal
-use Rattle.cycle_order.specs.Choosing.{IsChoice}
+use Rattle.cycle_order.specs.Choice.{IsChoice}
 use Rattle.cycle_order.specs.Graphs.{IsUnsettled}
-use Rattle.cycle_order.specs.Searching.{Marked}
+use Rattle.cycle_order.specs.Search.{Marked}
 
 abbrev pub invariant-loop-v : goal.invariant-loop-v
 invariant-loop-v l = record {

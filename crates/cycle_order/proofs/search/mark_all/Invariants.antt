@@ -1,6 +1,6 @@
 use Rattle.std.proofs.Common.{◌≡◌, ℕ, ◌<◌, ◌⊎◌, length}
 use Rattle.cycle_order.proofs.search.mark_all.Given as goal
-use Rattle.cycle_order.specs.Searching.{Marked}
+use Rattle.cycle_order.specs.Search.{Marked}
 
 abbrev pub invariant-loop-a : goal.invariant-loop-a
 invariant-loop-a l = record {

@@ -1,7 +1,7 @@
 use Rattle.std.proofs.Common.{◌≡◌, drop, map}
 use Rattle.std.specs.List.{list_all}
 use Rattle.doc_update.specs.Changes.{change_of}
-use Rattle.doc_apply.specs.Fitting.{change_is_good}
+use Rattle.doc_apply.specs.Fit.{change_is_good}
 use Rattle.doc_apply.proofs.fitting.changes_fit.Given as goal
 
 abbrev pub invariant-loop-field : goal.invariant-loop-field

@@ -1,7 +1,7 @@
 use Rattle.std.proofs.Common.{sym, ap, ◌∙◌}
 use Rattle.std.specs.List.{list_all}
 use Rattle.doc_update.specs.Changes.{changes_in, fields_of}
-use Rattle.doc_apply.specs.Fitting.{change_is_good}
+use Rattle.doc_apply.specs.Fit.{change_is_good}
 use Rattle.doc_apply.proofs.FitsBody.{fits_shallow}
 use Rattle.doc_apply.proofs.fitting.fits.Goals as goal
 

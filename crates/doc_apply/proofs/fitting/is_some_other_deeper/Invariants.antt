@@ -1,5 +1,5 @@
 use Rattle.std.proofs.Common.{◌≡◌, drop, map, nat_lt}
-use Rattle.doc_value.specs.Nesting.{nesting, deepest}
+use Rattle.doc_value.specs.Depth.{nesting, deepest}
 use Rattle.doc_update.specs.Effects.{without_item}
 use Rattle.doc_apply.proofs.fitting.is_some_other_deeper.Given as goal
 

@@ -5,7 +5,7 @@ use Rattle.std.proofs.lemmas.Iterator.Splits.{YieldsList-from_str_split}
 use Rattle.std.proofs.lemmas.List.{at_drop_more, at_drop_all, length_push}
 use Rattle.doc_value.specs.Paths.{parts_of}
 use Rattle.doc_value.specs.declared.value.Value.{Value}
-use Rattle.doc_apply.specs.Fitting.{is_found_ordered, located}
+use Rattle.doc_apply.specs.Fit.{is_found_ordered, located}
 use Rattle.doc_update.specs.Places.{is_open, part_of}
 use Rattle.doc_apply.proofs.FoundOrdered.{part-ordered}
 use Rattle.doc_apply.proofs.fitting.locate.Goals as goal

@@ -1,7 +1,7 @@
 use Rattle.std.proofs.Common.{◌≡◌, true, drop, length, Some}
 use Rattle.std.specs.Option.{option_copied}
 use Rattle.doc_value.specs.Paths.{parts_of}
-use Rattle.doc_apply.specs.Fitting.{is_found_ordered, located}
+use Rattle.doc_apply.specs.Fit.{is_found_ordered, located}
 use Rattle.doc_apply.proofs.fitting.locate.Given as goal
 
 abbrev pub invariant-loop-part : goal.invariant-loop-part

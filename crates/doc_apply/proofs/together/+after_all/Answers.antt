@@ -2,7 +2,7 @@ use Rattle.std.proofs.Common.{◌≡◌, ℕ, ◌+◌, ◌-◌, ◌<◌, ◌≤�
 use Rattle.std.specs.Option.{option_copied}
 use Rattle.doc_value.specs.declared.value.Value.{Value}
 use Rattle.doc_update.specs.Conflicts.{are_apart}
-use Rattle.doc_apply.specs.Fitting.{is_found_ordered}
+use Rattle.doc_apply.specs.Fit.{is_found_ordered}
 use Rattle.doc_apply.specs.Groups.{first_head, count_head, heads_rise, change_below}
 use Rattle.doc_update.specs.Places.{part_of}
 use Rattle.doc_apply.specs.Puts.{placed_all}

@@ -1,6 +1,6 @@
 use Rattle.std.proofs.Common.{◌≡◌, map, drop}
 use Rattle.doc_value.specs.Fields.{judged}
-use Rattle.doc_query.specs.Reading.{operators_fault, beside_fault}
+use Rattle.doc_query.specs.Syntax.{operators_fault, beside_fault}
 use Rattle.doc_query.proofs.reading.+conditions.Given as goal
 
 abbrev pub invariant-check_operators-loop-field : goal.invariant-check_operators-loop-field

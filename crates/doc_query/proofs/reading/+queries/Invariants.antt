@@ -1,6 +1,6 @@
 use Rattle.std.proofs.Common.{◌≡◌, map, drop}
 use Rattle.doc_value.specs.Fields.{judged}
-use Rattle.doc_query.specs.Reading.{names_fault, members_fault, beside_fault}
+use Rattle.doc_query.specs.Syntax.{names_fault, members_fault, beside_fault}
 use Rattle.doc_query.proofs.reading.+queries.Given as goal
 
 abbrev pub invariant-check_names-loop-field : goal.invariant-check_names-loop-field

@@ -1,5 +1,5 @@
 use Rattle.std.proofs.Common.{◌≡◌, drop}
-use Rattle.doc_update.specs.Reading.{fault_of_operators}
+use Rattle.doc_update.specs.Syntax.{fault_of_operators}
 use Rattle.doc_update.proofs.read.fault_of_operators.Given as goal
 
 abbrev pub invariant-loop-operator : goal.invariant-loop-operator

@@ -1,5 +1,5 @@
 use Rattle.std.proofs.Common.{◌≡◌, drop}
-use Rattle.doc_update.specs.Reading.{are_operators}
+use Rattle.doc_update.specs.Syntax.{are_operators}
 use Rattle.doc_update.proofs.shape.are_operators.Given as goal
 
 abbrev pub invariant-loop-field : goal.invariant-loop-field

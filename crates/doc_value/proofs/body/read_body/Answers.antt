@@ -2,7 +2,7 @@ use Rattle.std.proofs.Common.{◌≡◌, ◌∙◌, Ok, false, nat_lt, sym, ap, 
 use Rattle.std.specs.Option.{option_copied}
 use Rattle.doc_value.specs.declared.value.Value.{Object}
 use Rattle.doc_value.specs.Bodies.{body_in, first_refused, without_id}
-use Rattle.doc_value.specs.Nesting.{nesting}
+use Rattle.doc_value.specs.Depth.{nesting}
 use Rattle.doc_value.specs.Readable.{IsReadable}
 use Rattle.doc_value.proofs.BodyAgain.{body_again, body_readable}
 use Rattle.doc_value.proofs.body.read_body.Goals as goal

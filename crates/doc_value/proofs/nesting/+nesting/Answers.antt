@@ -1,7 +1,7 @@
 use Rattle.std.proofs.Common.{◌≡◌, ℕ, suc, ◌-◌, ◌<◌, nat_lt, map, ap, sym, ◌∙◌, arith}
 use Rattle.std.proofs.lemmas.Bool.Decides.{nat_tests}
 use Rattle.doc_value.specs.Fields.{judged}
-use Rattle.doc_value.specs.Nesting.{nesting, deepest_field}
+use Rattle.doc_value.specs.Depth.{nesting, deepest_field}
 use Rattle.doc_value.proofs.Levels.{nesting-Object}
 use Rattle.doc_value.proofs.nesting.+nesting.Goals as goal
 

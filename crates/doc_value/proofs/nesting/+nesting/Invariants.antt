@@ -1,6 +1,6 @@
 use Rattle.std.proofs.Common.{◌≡◌, nat_lt, map, drop}
 use Rattle.doc_value.specs.Fields.{judged}
-use Rattle.doc_value.specs.Nesting.{nesting, deepest, deepest_field}
+use Rattle.doc_value.specs.Depth.{nesting, deepest, deepest_field}
 use Rattle.doc_value.proofs.nesting.+nesting.Given as goal
 
 abbrev pub invariant-some_item_is_deeper-loop-item : goal.invariant-some_item_is_deeper-loop-item

@@ -1,6 +1,6 @@
 use Rattle.std.proofs.Common.{◌≡◌, ◌++◌, false, map, drop}
 use Rattle.doc_value.specs.Fields.{judged}
-use Rattle.doc_value.specs.Printing.{compact, items_text, fields_text}
+use Rattle.doc_value.specs.Texts.{compact, items_text, fields_text}
 use Rattle.doc_value.specs.Sound.{is_sound, all_sound, fields_sound}
 use Rattle.doc_value.proofs.print.+print.Given as goal
 

@@ -1,7 +1,7 @@
 use Rattle.std.proofs.Common.{◌≡◌, ◌++◌, List, ℕ, [], sym, subst, ◌∙◌, ap, IsUtf8}
 use Rattle.doc_value.specs.declared.value.Value.{Value}
-use Rattle.doc_value.specs.Printing.{compact}
-use Rattle.doc_value.specs.Reading.{value_in}
+use Rattle.doc_value.specs.Texts.{compact}
+use Rattle.doc_value.specs.Syntax.{value_in}
 use Rattle.doc_value.proofs.RoundTrip.{reads_back, utf8-compact}
 use Rattle.doc_value.proofs.print.print_value.Goals as goal
 

@@ -1,7 +1,7 @@
 use Rattle.std.proofs.Common.{◌≡◌, true, Result, Ok, Err, IsUtf8}
 use Rattle.std.specs.Result.{OnOk}
 use Rattle.doc_value.specs.declared.value.Value.{Value}
-use Rattle.doc_value.specs.Printing.{compact}
+use Rattle.doc_value.specs.Texts.{compact}
 use Rattle.doc_value.specs.Sound.{is_sound}
 use Rattle.doc_value.proofs.RoundTrip.{utf8-compact}
 use Rattle.doc_value.proofs.print.push_value.Goals as goal

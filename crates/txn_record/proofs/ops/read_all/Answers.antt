@@ -1,7 +1,7 @@
 use Rattle.std.proofs.Common.{◌+◌, List, [], ◌∷◌, length, drop, ap, ◌∙◌, subst, sym, arith, length-append}
 use Rattle.std.specs.List.{All}
 use Rattle.std.proofs.lemmas.List.Elements.{All-push}
-use Rattle.txn_record.specs.Reading.{ops_from}
+use Rattle.txn_record.specs.Syntax.{ops_from}
 use Rattle.txn_record.specs.Transactions.{IsSoundOp}
 use Rattle.txn_record.specs.declared.op.Op.{Op}
 use Rattle.txn_record.proofs.ReadingLaws.{after_those, after_next}

@@ -1,6 +1,6 @@
 use Rattle.std.proofs.Common.{◌≡◌, drop, length}
 use Rattle.std.specs.List.{All}
-use Rattle.txn_record.specs.Reading.{ops_from}
+use Rattle.txn_record.specs.Syntax.{ops_from}
 use Rattle.txn_record.specs.Transactions.{IsSoundOp}
 use Rattle.txn_record.proofs.ReadingLaws.{after_those}
 use Rattle.txn_record.proofs.ops.read_all.Given as goal

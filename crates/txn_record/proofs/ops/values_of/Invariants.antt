@@ -1,5 +1,5 @@
 use Rattle.std.proofs.Common.{◌≡◌, ◌++◌, drop, map}
-use Rattle.txn_record.specs.Printing.{op_value}
+use Rattle.txn_record.specs.Values.{op_value}
 use Rattle.txn_record.proofs.ops.values_of.Given as goal
 
 abbrev pub invariant-loop-op : goal.invariant-loop-op

@@ -1,5 +1,5 @@
 use Rattle.std.proofs.Common.{◌≡◌, drop}
-use Rattle.txn_record.specs.Reading.{are_fields}
+use Rattle.txn_record.specs.Syntax.{are_fields}
 use Rattle.txn_record.proofs.read.are_fields.Given as goal
 
 abbrev pub invariant-loop-field : goal.invariant-loop-field

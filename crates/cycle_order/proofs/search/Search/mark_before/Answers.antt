@@ -3,7 +3,7 @@ use Rattle.cycle_order.proofs.LastEdges.{followed_more, followed_edge, followed_
 use Rattle.cycle_order.proofs.Searches.{finds_then, finds_more}
 use Rattle.cycle_order.proofs.search.Search.mark_before.Goals as goal
 use Rattle.cycle_order.specs.Graphs.{HasEdge}
-use Rattle.cycle_order.specs.Searching.{Marked, end_at}
+use Rattle.cycle_order.specs.Search.{Marked, end_at}
 
 pub index-requires : goal.index-requires
 index-requires c =

@@ -1,7 +1,7 @@
 use Rattle.cycle_order.proofs.LastEdges.{IsFollowed, places_left}
 use Rattle.cycle_order.proofs.search.Search.mark_before.Given as goal
 use Rattle.cycle_order.specs.Graphs.{HasEdge}
-use Rattle.cycle_order.specs.Searching.{Finds}
+use Rattle.cycle_order.specs.Search.{Finds}
 
 abbrev pub invariant-loop-next : goal.invariant-loop-next
 invariant-loop-next l = record {

@@ -2,19 +2,19 @@
 use Rattle.std.specs.Prelude.{◌≡◌, ℕ, suc, Bool, true, false, ◌&&◌, ◌||◌, not, ◌==◌, nat_lt, List, [], ◌∷◌, length, codes, Option, Some, None, is_some, Result, Ok, Err, if◌then◌else◌}
 use Rattle.std.specs.List.{list_all}
 use Rattle.std.specs.Str.{bytes_eq}
-use Rattle.doc_query.specs.Reading.{query_in}
+use Rattle.doc_query.specs.Syntax.{query_in}
 use Rattle.doc_query.specs.declared.fault.QueryFault.{QueryFault}
-use Rattle.doc_update.specs.Reading.{update_in}
+use Rattle.doc_update.specs.Syntax.{update_in}
 use Rattle.doc_update.specs.declared.fault.UpdateFault.{UpdateFault}
 use Rattle.doc_value.specs.Bodies.{body_in}
-use Rattle.doc_value.specs.Nesting.{nesting}
+use Rattle.doc_value.specs.Depth.{nesting}
 use Rattle.doc_value.specs.Paths.{field_in}
 use Rattle.doc_value.specs.declared.doc_id.DocId.{DocId}
 use Rattle.doc_value.specs.declared.fault.BodyFault.{BodyFault}
 use Rattle.doc_value.specs.declared.value.Named.{Named}
 use Rattle.doc_value.specs.declared.value.Value.{Value, out-Value}
 use Rattle.doc_value.specs.declared.value.Value.TheOpen.{Value-F}
-use Rattle.txn_key.specs.Reading.{key_in}
+use Rattle.txn_key.specs.Syntax.{key_in}
 use Rattle.txn_key.specs.declared.key.Key.{Key}
 use Rattle.txn_record.specs.declared.fault.OpFault.{OpFault}
 use Rattle.txn_record.specs.declared.fault.OpFault.TheVariants.{BadOperation, KeyMissing, BadKey, SeveralChanges, NothingSet, InsertAssert, TooDeep, BadInsert, BadUpdate, BadAssert}

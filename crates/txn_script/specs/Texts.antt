@@ -2,7 +2,7 @@
 use Rattle.std.specs.Prelude.{ℕ, List, [], ◌∷◌, ◌++◌, codes}
 use Rattle.std.specs.Fmt.{signed_decimal}
 use Rattle.json.specs.Print.{quoted}
-use Rattle.doc_value.specs.Printing.{compact}
+use Rattle.doc_value.specs.Texts.{compact}
 use Rattle.doc_value.specs.declared.value.Value.{Value}
 use Rattle.doc_value.specs.declared.doc_id.DocId.{DocId}
 use Rattle.doc_value.specs.declared.doc_id.DocId.TheVariants as doc_id

@@ -1,7 +1,7 @@
 -- Whether an update fits, told from the body as it is before all its changes.
 use Rattle.std.specs.Prelude.{ℕ, Bool, true, false, ◌&&◌, not, ◌+◌, List, [], ◌∷◌, length, nat_lt, Option, Some, None, is_some, if◌then◌else◌}
 use Rattle.doc_value.specs.declared.value.Value.{Value}
-use Rattle.doc_value.specs.Nesting.{nesting}
+use Rattle.doc_value.specs.Depth.{nesting}
 use Rattle.doc_value.specs.Order.{is_ordered}
 use Rattle.doc_update.specs.Changes.{Change}
 use Rattle.doc_update.specs.Effects.{effect}

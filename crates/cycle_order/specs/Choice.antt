@@ -1,7 +1,7 @@
 -- Words of the choice among the vertices of a graph.
 use Rattle.std.specs.Prelude.{◌≡◌, ◌≢◌, ℕ, ◌<◌, Bool, Option, Some, None, IfSome, List, length, map, ◌⊎◌}
 use Rattle.cycle_order.specs.Graphs.{Ancestor, IsUnsettled, IsBelow, IsReady}
-use Rattle.cycle_order.specs.Searching.{Marked, IsIncoming}
+use Rattle.cycle_order.specs.Search.{Marked, IsIncoming}
 use Rattle.cycle_order.specs.declared.graph.Edge.{Edge}
 use Rattle.cycle_order.specs.declared.graph.Graph.{Graph}
 use Rattle.cycle_order.specs.declared.links.Links.{Links}
