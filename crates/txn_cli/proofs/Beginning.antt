@@ -7,14 +7,14 @@ use Rattle.txn_io.specs.Unread.{Unread}
 use Rattle.txn_runner.specs.Calm.{IsCalm}
 use Rattle.txn_play.specs.Batches.{MayRun}
 use Rattle.txn_play.specs.Remains.{Stays}
-use Rattle.txn_play.specs.Progress.{Progress, has_no_cell}
+use Rattle.txn_play.specs.Progress.{Progress, has_no_cell, holding_at}
 use Rattle.txn_play.specs.Runs.{RunsGoOn}
 use Rattle.txn_play.specs.Sessions.{IsBetween, IsNew, at}
 use Rattle.txn_play.specs.declared.run.Run.{Run}
 use Rattle.txn_play.specs.declared.session.Session.{Session}
 use Rattle.txn_play.proofs.Opening.{none_is_empty}
 use Rattle.txn_play.proofs.Sessions.{opens_calm, nothing_waits}
-use Rattle.txn_cli.specs.Call.{HasStopped, Held, Taken, start}
+use Rattle.txn_cli.specs.Call.{HasStopped, Held, Taken, holding_in, start}
 use Rattle.txn_cli.specs.Output.{Writing, answers_text}
 use Rattle.txn_cli.specs.Script.{Plays}
 use Rattle.txn_cli.specs.Faults.{OrShort, fault_of_stop}
@@ -27,16 +27,17 @@ use Rattle.txn_cli.proofs.Coming.{HasCome}
 
 -- the first look at the store was made, by one call that changed nothing
 module _ {S : Type 0} (store : Ghosts S) (old new : Session S) (begins : IsNew old) where
-  pub begins_stands : has_no_cell (store.content old.store) ≡ true → store.content new.store ≡ store.content old.store → new.batch ≡ old.batch → new.runs.items ≡ old.runs.items → new.begun ≡ old.begun → IsBetween store new
+  pub begins_stands : (IsTrue new.documents_alone → has_no_cell (store.content old.store) ≡ true) → store.content new.store ≡ store.content old.store → new.batch ≡ old.batch → new.runs.items ≡ old.runs.items → new.begun ≡ old.begun → IsBetween store new
   begins_stands nothing same batch runs begun = record {
-    may_run = subst (MayRun (store.content new.store)) (sym (batch ∙ begins.batch)) (nothing_waits (store.content new.store) (subst IsCalm (sym (same ∙ none_is_empty (store.content old.store) nothing)) opens_calm));
+    may_run = λ alone. subst (MayRun (store.content new.store)) (sym (batch ∙ begins.batch)) (nothing_waits (store.content new.store) (subst IsCalm (sym (same ∙ none_is_empty (store.content old.store) (nothing alone))) opens_calm));
+    none_run = λ e. runs ∙ begins.runs;
     runs = subst (λ (rs : List Run). RunsGoOn (store.trail new.store) rs (store.calls new.store)) (sym (runs ∙ begins.runs)) tt;
     unbegun = λ e. (batch ∙ begins.batch, runs ∙ begins.runs);
   }
 
   pub begins_come : (script : List ℕ) (left : Unread) (w : Writing) → left.taken ≡ 0 → left.left ≡ script → w.after ≡ w.before
       → store.calls old.store ≤ store.calls new.store → store.trail new.store (store.calls new.store) ≡ store.content new.store
-      → store.content new.store ≡ store.content old.store → new.was_empty ≡ has_no_cell (store.content old.store) → new.batch ≡ old.batch → new.runs.items ≡ old.runs.items → new.begun ≡ old.begun
+      → store.content new.store ≡ store.content old.store → new.documents_alone ≡ has_no_cell (store.content old.store) → new.batch ≡ old.batch → new.runs.items ≡ old.runs.items → new.begun ≡ old.begun
       → HasCome store script (store.trail new.store) (start store old.store) 0 left new w
   begins_come script left w none all unwritten later here same was batch runs begun = record {
     answers = [];
@@ -49,12 +50,12 @@ module _ {S : Type 0} (store : Ghosts S) (old new : Session S) (begins : IsNew o
   }
     where
       still : at store new ≡ record (start store old.store) { calls = store.calls new.store }
-      still = λ i. record { content = same i; calls = store.calls new.store; waiting = (batch ∙ begins.batch) i; begun = (begun ∙ begins.begun) i; was_empty = was i; runs = (runs ∙ begins.runs) i }
+      still = λ i. record { content = same i; calls = store.calls new.store; waiting = (batch ∙ begins.batch) i; begun = (begun ∙ begins.begun) i; documents_alone = was i; runs = (runs ∙ begins.runs) i }
 
 -- the call is refused before any line
 module _ (taken : Taken) (begun : Progress) (end : Held) (w : Writing) (unwritten : w.after ≡ w.before) (later : begun.calls ≤ end.calls) (here : end.trail end.calls ≡ begun.content)
     (holds : end.content ≡ begun.content) (runs : end.runs ≡ begun.runs) where
-  stays : Stays (record { content = begun.content; runs = begun.runs }) (record { content = end.content; runs = end.runs })
+  stays : Stays (holding_at begun) (holding_in end)
   stays = record { holds = holds; runs = runs }
 
   written : IsTrue w.tells → w.after ≡ w.before ++ []
@@ -84,7 +85,7 @@ failed why = Err why
 pub look_fault : (why : Refusal) (f : Fault) → (failed why ≡ failed refusal.Store) ⊎ (failed why ≡ failed refusal.OutOfMemory) → OrShort (fault_of_stop 1 (stop.Refused why)) f → (f ≡ fault.Store) ⊎ (f ≡ fault.OutOfMemory)
 look_fault refusal.Store f h is = inl is
 look_fault refusal.OutOfMemory f h is = inr is
-look_fault refusal.NotBuilt f h is = absurd (⊎_elim (λ e. cc) (λ e. cc) h)
+look_fault (refusal.Objected o) f h is = absurd (⊎_elim (λ e. cc) (λ e. cc) h)
 look_fault (refusal.Spent x) f h is = absurd (⊎_elim (λ e. cc) (λ e. cc) h)
 look_fault (refusal.Broken x) f h is = absurd (⊎_elim (λ e. cc) (λ e. cc) h)
 look_fault (refusal.Repeated x) f h is = absurd (⊎_elim (λ e. cc) (λ e. cc) h)

@@ -9,7 +9,7 @@ use Rattle.txn_io.specs.Unread.{Unread, HasRead, unread}
 use Rattle.txn_io.specs.declared.source.Source.{Ghosts as SourceGhosts}
 use Rattle.txn_io.specs.declared.sink.Sink.{Ghosts as SinkGhosts}
 use Rattle.txn_script.specs.Statements.{line_in}
-use Rattle.txn_play.specs.Progress.{Progress, has_no_cell}
+use Rattle.txn_play.specs.Progress.{Progress}
 use Rattle.txn_play.specs.Sessions.{Stands, at}
 use Rattle.txn_play.specs.declared.answer.Answer.{Answer}
 use Rattle.txn_play.specs.declared.answer.Answer.TheVariants.{}
@@ -17,7 +17,7 @@ use Rattle.txn_play.specs.declared.session.Session.{Session}
 use Rattle.txn_cli.specs.Call.{start}
 use Rattle.txn_cli.specs.Line.{Between, HasDone, HasDoneLine, HasRunFirst, RunsFirst, up_to}
 use Rattle.txn_cli.specs.Output.{Writing, Wrote, answer_text, answers_text, writing}
-use Rattle.txn_cli.specs.Script.{Plays, PlaysLine, after_lines, line_lets_run, next_lets_run, next_of, taken_by}
+use Rattle.txn_cli.specs.Script.{Plays, PlaysAs, after_lines, line_lets_run, next_lets_run, next_of, taken_by}
 use Rattle.txn_cli.proofs.Scripts.{first_as, lets_next, plays_still, wrote_more, wrote_none}
 
 -- a script was done up to its nth line, and this is unread
@@ -45,8 +45,6 @@ pub record IsReading {S I O : Type 0} (store : Ghosts S) (source : SourceGhosts 
   pub output_later : sink.faults old_output ≤ sink.faults output
   pub input_later : source.faults old_input ≤ source.faults input
   pub made : CallsGoOn store old.store new.store
-  pub was_empty : IsTrue store.tells → new.was_empty ≡ has_no_cell (store.content old.store)
-  pub none_run : new.was_empty ≡ false → new.runs.items ≡ []
   pub stands : Stands store new
   pub come : IsTrue source.tells → IsTrue store.tells
       → HasCome store (source.rest old_input) (store.trail new.store) (start store old.store) done (unread source lines input) new (writing sink old_output output)
@@ -90,7 +88,7 @@ module _ {S : Type 0} (store : Ghosts S) (script : List ℕ) (begun : Progress) 
   -- a line was done
   pub comes_line : (trail : ℕ → Content) (session next : Session S) (line : List ℕ) (new : Unread) (now after : List ℕ)
       → HasCome store script trail begun n left session (written now) → HasRead left new (Some line)
-      → HasDone store (PlaysLine line) session next (record { tells = tells; before = now; after = after })
+      → HasDone store (PlaysAs (line_in line)) session next (record { tells = tells; before = now; after = after })
       → store.calls session.store ≤ store.calls next.store → trail (store.calls next.store) ≡ store.content next.store
       → HasCome store script trail begun (n + 1) new next (written after)
   comes_line trail session next line new now after h read done later here = record {

@@ -1,8 +1,9 @@
 -- A line in two steps: a batch that is let run first, and the line itself.
-use Rattle.std.proofs.Common.{◌≡◌, ◌≢◌, ◌≤◌, ◌⊎◌, ⊎_elim, inl, inr, ℕ, Bool, true, false, List, [], ◌++◌, Option, Some, None, Result, Ok, Err, OnOk, IfErr, IfOk, IsTrue, length, refl, sym, ap, ◌∙◌, subst, arith}
+use Rattle.std.proofs.Common.{◌≡◌, ◌≢◌, ◌≤◌, ◌⊎◌, ⊎_elim, inl, inr, ℕ, Bool, true, false, List, [], ◌++◌, Option, Some, None, Result, Ok, Err, OnOk, IfErr, IfOk, IsTrue, length, refl, sym, ap, ◌∙◌, subst, arith, cond}
 use Rattle.std.specs.Prelude.{IfSome}
 use Rattle.std.proofs.lemmas.List.{append-nil}
 use Rattle.store_trait.specs.Contents.{Content}
+use Rattle.store_trait.specs.Stores.{CallsGoOn}
 use Rattle.store_trait.specs.declared.store.Store.{Ghosts}
 use Rattle.txn_script.specs.Statements.{line_in}
 use Rattle.txn_script.specs.Faults.{fault_text as script_text}
@@ -11,45 +12,50 @@ use Rattle.txn_script.specs.declared.fault.ScriptFault.TheVariants as script_fau
 use Rattle.txn_script.specs.declared.statement.Statement.{Statement}
 use Rattle.txn_script.specs.declared.statement.Statement.TheVariants as statement
 use Rattle.txn_play.specs.Remains.{Stays}
-use Rattle.txn_play.specs.Progress.{Progress, Does, is_allowed, lets_run, runs_batch}
+use Rattle.txn_play.specs.Progress.{Progress, Does, is_nothing, lets_run, objection_at_end, objection_to, runs_batch, unless_alone}
 use Rattle.txn_play.specs.Sessions.{HasEnough, IsCaused, at, holding}
 use Rattle.txn_play.proofs.Causing.{caused_before}
-use Rattle.txn_runner.proofs.CallsMade.{rose_before}
+use Rattle.txn_runner.proofs.CallsMade.{calls_then, rose_before}
 use Rattle.txn_runner.specs.Numbers.{Suffices}
 use Rattle.txn_runner.specs.declared.waiting.Waiting.{Waiting}
 use Rattle.txn_play.specs.declared.answer.Answer.{Answer}
 use Rattle.txn_play.specs.declared.answer.Answer.TheVariants.{Nothing}
+use Rattle.txn_play.specs.declared.objection.Objection.{Objection}
 use Rattle.txn_play.specs.declared.refusal.Refusal.{Refusal}
 use Rattle.txn_play.specs.declared.refusal.Refusal.TheVariants as refusal
 use Rattle.txn_play.specs.declared.session.Session.{Session}
 use Rattle.txn_play.proofs.BatchRuns.{left_more}
-use Rattle.txn_cli.specs.Faults.{refusal_in_stop, stop_of_reading}
-use Rattle.txn_cli.specs.Line.{Between, Deed, HasDone, HasDoneCut, HasDoneIdly, HasDoneLine, HasRunFirst, HasStoppedLine, LeftBy, RefusedBy, RefusedWhere, RunsFirst, StopsFor, performing, playing, running, running_first, up_to, from}
+use Rattle.txn_cli.specs.Faults.{counts, objection_text, refusal_in_stop, stop_of_reading}
+use Rattle.txn_cli.specs.Line.{Between, Deed, HasDone, HasDoneCut, HasDoneIdly, HasDoneLine, HasRunFirst, HasStoppedLine, IsKeptLine, LeftBy, RefusedBy, RunsFirst, StoppedFirst, StoppedFor, StopsFor, performing, playing, running, running_first, up_to, from}
 use Rattle.txn_cli.specs.Output.{Writing, Wrote, WrotePart, answer_text, prints}
 use Rattle.txn_cli.proofs.Scripts.{first_as}
-use Rattle.txn_cli.specs.Script.{PlaysAs, PlaysLine, RefusedAs, line_lets_run, line_may_run}
+use Rattle.txn_cli.specs.Script.{PlaysAs, RefusedAs, RefusedFor, line_lets_run, line_may_run}
 use Rattle.txn_cli.specs.declared.stop.Stop.{Stop}
 use Rattle.txn_cli.specs.declared.stop.Stop.TheVariants as stop
 
--- what lets a batch run isn't allowed where it may not run
-not_allowed : (p : Progress) (s : Statement) → lets_run s ≡ true → p.was_empty ≡ false → is_allowed p s ≡ false
-not_allowed p statement.Show lets was = was
-not_allowed p (statement.Doc key body) lets was = absurd (cc)
-not_allowed p (statement.Submit id ops info) lets was = absurd (cc)
-not_allowed p statement.Go lets was = absurd (cc)
+-- what stands against a batch that a statement lets run stands against the statement
+against_first : (p : Progress) (s : Statement) (why : Objection) → lets_run s ≡ true → objection_at_end p ≡ Some why → objection_to p s ≡ Some why
+against_first p s why lets e = by (is_nothing p.waiting) refl
+  where
+    none_or : (b : Bool) → is_nothing p.waiting ≡ b → cond b None (unless_alone p) ≡ Some why
+    none_or b is = subst (λ (t : Bool). cond t None (unless_alone p) ≡ Some why) is e
+
+    by : (b : Bool) → is_nothing p.waiting ≡ b → objection_to p s ≡ Some why
+    by true is = absurd (nothing (none_or true is))
+      where
+        nothing : {A : Type 0} {x : A} → None ≡ Some x → ⊥
+        nothing h = cc
+    by false is = rw (lets, is) (none_or false is)
 
 runs_may : (s : Statement) → runs_batch s ≡ true → line_may_run (Ok (Some s)) ≡ true
-runs_may statement.Go runs = refl
-runs_may statement.Show runs = absurd (cc)
-runs_may (statement.Doc key body) runs = absurd (cc)
-runs_may (statement.Submit id ops info) runs = absurd (cc)
+runs_may s runs = ap (λ (b : Bool). cond b true (lets_run s)) runs
 
 -- what is left by a stop of one deed is left by that of another which may more
 left_by_more : {S : Type 0} (store : Ghosts S) (a b : Deed) (old new : Session S) (w : Writing) (why : Stop) → (a.may_run ≡ true → b.may_run ≡ true) → ((p q : Progress) (answer : Answer) → a.does p q answer → b.does p q answer)
     → LeftBy store a old new w why → LeftBy store b old new w why
 left_by_more store a b old new w (stop.Misread e) may does h = h
 left_by_more store a b old new w stop.Output may does h = record { done = record { answer = h.done.answer; did = does (at store old) (at store new) h.done.answer h.done.did }; part = h.part }
-left_by_more store a b old new w (stop.Refused refusal.NotBuilt) may does h = h
+left_by_more store a b old new w (stop.Refused (refusal.Objected o)) may does h = h
 left_by_more store a b old new w (stop.Refused refusal.Store) may does h = (left_more a.may_run b.may_run old.batch (store.trail new.store) (holding store old) (holding store new) refusal.Store may h.0, h.1)
 left_by_more store a b old new w (stop.Refused refusal.OutOfMemory) may does h = (
   ⊎_elim (λ l. inl (left_more a.may_run b.may_run old.batch (store.trail new.store) (holding store old) (holding store new) refusal.OutOfMemory may l))
@@ -74,7 +80,7 @@ left_by_write store deed old new w answer (Ok x) did kind part none lines = tt
 left_by_write store deed old new w answer (Err stop.Output) did kind part none lines = record { done = record { answer = answer; did = did }; part = part refl }
 left_by_write store deed old new w answer (Err (stop.Refused refusal.OutOfMemory)) did kind part none lines = (inr (record { done = record { answer = answer; did = did }; lines = lines refl }), none refl)
 left_by_write store deed old new w answer (Err (stop.Misread e)) did kind part none lines = absurd (⊎_elim (λ h. cc) (λ h. cc) kind)
-left_by_write store deed old new w answer (Err (stop.Refused refusal.NotBuilt)) did kind part none lines = absurd (⊎_elim (λ h. cc) (λ h. cc) kind)
+left_by_write store deed old new w answer (Err (stop.Refused (refusal.Objected o))) did kind part none lines = absurd (⊎_elim (λ h. cc) (λ h. cc) kind)
 left_by_write store deed old new w answer (Err (stop.Refused refusal.Store)) did kind part none lines = absurd (⊎_elim (λ h. cc) (λ h. cc) kind)
 left_by_write store deed old new w answer (Err (stop.Refused (refusal.Spent e))) did kind part none lines = absurd (⊎_elim (λ h. cc) (λ h. cc) kind)
 left_by_write store deed old new w answer (Err (stop.Refused (refusal.Broken e))) did kind part none lines = absurd (⊎_elim (λ h. cc) (λ h. cc) kind)
@@ -85,10 +91,10 @@ pub enough_first : {S : Type 0} (store : Ghosts S) (lets : Bool) (old between : 
 enough_first store lets old between answer ran enough = ⊎_elim
     (λ same. λ was.
     let is : at store between ≡ at store old = same.0 in
-    subst (λ (p : Progress). Suffices p.content (length p.waiting)) (sym is) (enough (subst (λ (p : Progress). IsTrue p.was_empty) is was)))
+    subst (λ (p : Progress). Suffices p.content (length p.waiting)) (sym is) (enough (subst (λ (p : Progress). IsTrue p.documents_alone) is was)))
     (λ batch. λ was.
     let u = batch.1.runs.ran.ran.uses in
-    let s = enough (subst (λ (b : Bool). IsTrue b) batch.1.runs.was_empty was) in
+    let s = enough (subst (λ (b : Bool). IsTrue b) batch.1.runs.alone was) in
     subst (λ (w : List Waiting). Suffices (store.content between.store) (length w)) (sym batch.1.runs.none_waits) (record { nonces = omega (arith, s.nonces, u.counter); numbers = λ key. omega (arith, s.numbers key, u.numbers key) }))
     (first_as lets (at store old) (at store between) answer ran)
 
@@ -107,16 +113,35 @@ caused_since {S} store old between new (Err why) calls faults enough h = by (ref
       cause = caused_before store old.store between.store new.store r calls h.cause;
     }
 
--- a statement that isn't built refuses its line
-refused_by : (s : Statement) (p : Progress) (Where : Type 0) (why : Stop) → (Where → is_allowed p s ≡ false) → RefusedWhere Where why → RefusedBy (Ok (Some s)) p why
-refused_by s p Where (stop.Misread e) not_built h = elim h [ ]
-refused_by s p Where stop.Output not_built h = tt
-refused_by s p Where (stop.Refused refusal.NotBuilt) not_built h = (not_built h, refl)
-refused_by s p Where (stop.Refused refusal.Store) not_built h = tt
-refused_by s p Where (stop.Refused refusal.OutOfMemory) not_built h = tt
-refused_by s p Where (stop.Refused (refusal.Spent e)) not_built h = tt
-refused_by s p Where (stop.Refused (refusal.Broken e)) not_built h = tt
-refused_by s p Where (stop.Refused (refusal.Repeated id)) not_built h = tt
+-- what two steps keep, one after the other
+pub kept_then : {S : Type 0} (store : Ghosts S) (old between new : Session S) (a b c : ℕ) (result : Result (Unit {0}) Stop) → CallsGoOn store old.store between.store → a ≤ b
+    → (IsTrue store.tells → HasEnough store old → HasEnough store between) → IsKeptLine store between new (counts b c) result → IsKeptLine store old new (counts a c) result
+kept_then store old between new a b c result calls le enough then = record {
+  session = record { stands = then.session.stands; runs = then.session.runs; calls = calls_then store old.store between.store new.store calls then.session.calls };
+  caused = caused_since store old between new result calls.counted calls.later enough then.caused;
+  output = record { later = omega (arith, le, then.output.later); fault = λ is. rose_before le (then.output.fault is) };
+}
+
+-- what stands against a statement refuses its line
+refused_by : (s : Statement) (p : Progress) (why : Stop) → StoppedFor (objection_to p s) why → RefusedBy (Ok (Some s)) p why
+refused_by s p (stop.Misread e) h = elim h [ ]
+refused_by s p stop.Output h = tt
+refused_by s p (stop.Refused (refusal.Objected o)) h = subst (λ (against : Option Objection). RefusedFor against (objection_text o)) (sym h) refl
+refused_by s p (stop.Refused refusal.Store) h = tt
+refused_by s p (stop.Refused refusal.OutOfMemory) h = tt
+refused_by s p (stop.Refused (refusal.Spent e)) h = tt
+refused_by s p (stop.Refused (refusal.Broken e)) h = tt
+refused_by s p (stop.Refused (refusal.Repeated id)) h = tt
+
+first_for : (p : Progress) (s : Statement) (why : Stop) → StoppedFirst (lets_run s) p why → StoppedFor (objection_to p s) why
+first_for p s (stop.Misread e) h = elim h.1 [ ]
+first_for p s stop.Output h = tt
+first_for p s (stop.Refused (refusal.Objected o)) h = against_first p s o h.0 h.1
+first_for p s (stop.Refused refusal.Store) h = tt
+first_for p s (stop.Refused refusal.OutOfMemory) h = tt
+first_for p s (stop.Refused (refusal.Spent e)) h = tt
+first_for p s (stop.Refused (refusal.Broken e)) h = tt
+first_for p s (stop.Refused (refusal.Repeated id)) h = tt
 
 reads_as : (why : ScriptFault) → ((why ≢ script_fault.OutOfMemory) × (stop_of_reading why ≡ stop.Misread why)) ⊎ (why ≡ script_fault.OutOfMemory)
 reads_as script_fault.OutOfMemory = inr refl
@@ -130,6 +155,8 @@ reads_as script_fault.BadBody = inl ((λ e. cc), refl)
 reads_as script_fault.BadInfo = inl ((λ e. cc), refl)
 reads_as script_fault.NoOperations = inl ((λ e. cc), refl)
 reads_as script_fault.TooManyOperations = inl ((λ e. cc), refl)
+reads_as script_fault.BadStatement = inl ((λ e. cc), refl)
+reads_as script_fault.BadCell = inl ((λ e. cc), refl)
 reads_as script_fault.NotBuilt = inl ((λ e. cc), refl)
 
 module _ {S : Type 0} (store : Ghosts S) (line : List ℕ) where
@@ -162,10 +189,10 @@ module _ {S : Type 0} (store : Ghosts S) (line : List ℕ) where
 
   module _ (s : Statement) (read : line_in line ≡ Ok (Some s)) where
     -- the first step is stopped
-    pub stops_first : (old new : Session S) (w : Writing) (why : Stop) → RefusedWhere ((lets_run s ≡ true) × (old.was_empty ≡ false)) why
+    pub stops_first : (old new : Session S) (w : Writing) (why : Stop) → StoppedFirst (lets_run s) (at store old) why
         → LeftBy store (running_first (lets_run s)) old new w why → HasStoppedLine store line old new w why
     stops_first old new w why refused l = HasStoppedLine.First
-        (subst (λ (r : Result (Option Statement) ScriptFault). RefusedBy r (at store old) why) (sym read) (refused_by s (at store old) ((lets_run s ≡ true) × (old.was_empty ≡ false)) why (λ e. not_allowed (at store old) s e.0 e.1) refused))
+        (subst (λ (r : Result (Option Statement) ScriptFault). RefusedBy r (at store old) why) (sym read) (refused_by s (at store old) why (first_for (at store old) s why refused)))
         (subst (λ (r : Result (Option Statement) ScriptFault). LeftBy store (running_first (line_lets_run r)) old new w why) (sym read) l)
 
     module _ (old new : Session S) (w : Writing) (between : Between S) (ran : HasDone store (RunsFirst (lets_run s)) old between.session (up_to w between))
@@ -188,10 +215,10 @@ module _ {S : Type 0} (store : Ghosts S) (line : List ℕ) where
       done_line (Err e) done = tt
 
       -- the second step is stopped
-      pub stops_then : {T : Type 0} (result : Result T Stop) (Where : Type 0) → (Where → is_allowed (at store between.session) s ≡ false) → IfErr result (RefusedWhere Where)
+      pub stops_then : {T : Type 0} (result : Result T Stop) → IfErr result (StoppedFor (objection_to (at store between.session) s))
           → IfErr result (LeftBy store (performing s) between.session new (from w between)) → IfErr result (HasStoppedLine store line old new w)
-      stops_then (Ok x) Where not_built refused l = tt
-      stops_then (Err why) Where not_built refused l = HasStoppedLine.Then between first
-          (subst (λ (r : Result (Option Statement) ScriptFault). RefusedBy r (at store between.session) why) (sym read) (refused_by s (at store between.session) Where why not_built refused))
+      stops_then (Ok x) refused l = tt
+      stops_then (Err why) refused l = HasStoppedLine.Then between first
+          (subst (λ (r : Result (Option Statement) ScriptFault). RefusedBy r (at store between.session) why) (sym read) (refused_by s (at store between.session) why refused))
           (left_by_more store (performing s) (playing line) between.session new (from w between) why
           (λ runs. ap line_may_run read ∙ runs_may s runs) (λ p q answer does. subst (λ (r : Result (Option Statement) ScriptFault). PlaysAs r p q answer) (sym read) does) l)

@@ -12,7 +12,7 @@ use Rattle.txn_play.specs.declared.answer.Answer.{Answer}
 use Rattle.txn_play.specs.declared.answer.Answer.TheVariants.{Nothing}
 use Rattle.txn_cli.specs.Line.{RunsFirst, RunsWaiting}
 use Rattle.txn_cli.specs.Output.{answer_text, answers_text}
-use Rattle.txn_cli.specs.Script.{Follows, Plays, PlaysLine, after_lines, line_lets_run, line_may_run, next_lets_run, next_may_run, next_of, taken_by}
+use Rattle.txn_cli.specs.Script.{Follows, Plays, after_lines, line_lets_run, line_may_run, next_lets_run, next_may_run, next_of, taken_by}
 
 unpassed : (passed : Option LineFault) (found line : Option (List ℕ)) → unless_passed passed found ≡ Ok line → found ≡ line
 unpassed None found line e = cc

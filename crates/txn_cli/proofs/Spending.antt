@@ -1,5 +1,5 @@
 -- A script has fewer transactions than there are nonces, or numbers for a document.
-use Rattle.std.proofs.Common.{◌≡◌, ℕ, [], ◌∷◌, cond, false, unwrap_or, ◌+◌, ◌≤◌, Bool, true, Option, Some, None, Result, Ok, Err, List, length, sym, ap, subst, arith}
+use Rattle.std.proofs.Common.{◌≡◌, ℕ, [], ◌∷◌, cond, false, unwrap_or, ◌+◌, ◌≤◌, Bool, true, Option, Some, None, Result, Ok, Err, List, length, sym, ap, ◌∙◌, subst, arith, IsTrue}
 use Rattle.std.specs.FinMap.{empty, get, get-empty, insert, get-insert}
 use Rattle.std.specs.Option.{option_and_then}
 use Rattle.std.specs.Ordering.{eq_by_cmp}
@@ -19,7 +19,7 @@ use Rattle.txn_script.specs.Statements.{line_in}
 use Rattle.txn_script.specs.declared.fault.ScriptFault.{ScriptFault}
 use Rattle.txn_script.specs.declared.statement.Statement.{Statement}
 use Rattle.txn_script.specs.declared.statement.Statement.TheVariants as statement
-use Rattle.txn_play.specs.Progress.{Progress, opening, placed_doc, has_no_cell, RunsBatch, Performs}
+use Rattle.txn_play.specs.Progress.{Progress, opening, placed_doc, RunsBatch, Performs, Tells}
 use Rattle.txn_play.specs.declared.answer.Answer.{Answer}
 use Rattle.txn_play.proofs.Opening.{none_is_empty}
 use Rattle.txn_cli.specs.Script.{PlaysAs, Plays}
@@ -49,28 +49,42 @@ number_placed c key body other =
 
 -- ---- what each statement uses
 
-ran : (p q : Progress) (answer : Answer) (n : ℕ) → Bounds p n → RunsBatch p q answer → Bounds q n
-ran p q answer n b r =
+ran : (p q : Progress) (said : Answer) (n : ℕ) → Bounds p n → RunsBatch p q said → Bounds q n
+ran p q said n b r =
     let u = r.ran.ran.uses in
     subst (λ (w : List Waiting). Bounds (record q { waiting = w }) n) (sym r.none_waits)
     (record { nonces = omega (arith, b.nonces, u.counter); numbers = λ key. omega (arith, b.numbers key, u.numbers key) })
 
-does : (s : Statement) (p q : Progress) (answer : Answer) (n : ℕ) → Bounds p n → Performs s p q answer → Bounds q (n + 1)
-does (statement.Doc key body) p q answer n b is = subst (λ (x : Progress). Bounds x (n + 1)) (sym is.0) (record {
-  nonces = omega (arith, b.nonces, counter_placed p.content key body);
-  numbers = λ other. omega (arith, b.numbers other, number_placed p.content key body other);
-})
-does (statement.Submit id ops info) p q answer n b is = subst (λ (x : Progress). Bounds x (n + 1)) (sym is.0) (record {
-  nonces = omega (arith, b.nonces, length-append p.waiting (record { id = id; ops = ops } ∷ []));
-  numbers = λ key. omega (arith, b.numbers key, length-append p.waiting (record { id = id; ops = ops } ∷ []));
-})
-does statement.Go p q answer n b runs = bounds_more q n (ran p q answer n b runs)
-does statement.Show p q answer n b shown = subst (λ (x : Progress). Bounds x (n + 1)) (sym shown.1) (record { nonces = omega (arith, b.nonces); numbers = λ key. omega (arith, b.numbers key) })
+-- where documents alone were placed
+BoundsAlone : Progress → ℕ → Type 0
+BoundsAlone p n = IsTrue p.documents_alone → Bounds p n
 
-plays_as : (r : Result (Option Statement) ScriptFault) (p q : Progress) (answer : Answer) (n : ℕ) → Bounds p n → PlaysAs r p q answer → Bounds q (n + 1)
-plays_as (Ok None) p q answer n b same = subst (λ (x : Progress). Bounds x (n + 1)) (sym same.0) (bounds_more p n b)
-plays_as (Ok (Some s)) p q answer n b d = does s p q answer n b d.performs
-plays_as (Err why) p q answer n b none = elim none [ ]
+told : (p q : Progress) (said expected : Answer) (n : ℕ) → BoundsAlone p n → Tells p q said expected → BoundsAlone q (n + 1)
+told p q said expected n b t = subst (λ (x : Progress). BoundsAlone x (n + 1)) (sym t.stays) (λ alone. record { nonces = omega (arith, (b alone).nonces); numbers = λ key. omega (arith, (b alone).numbers key) })
+
+does : (s : Statement) (p q : Progress) (said : Answer) (n : ℕ) → BoundsAlone p n → Performs s p q said → BoundsAlone q (n + 1)
+does (statement.Doc key body) p q said n b is = subst (λ (x : Progress). BoundsAlone x (n + 1)) (sym is.0) (λ alone. record {
+  nonces = omega (arith, (b alone).nonces, counter_placed p.content key body);
+  numbers = λ other. omega (arith, (b alone).numbers other, number_placed p.content key body other);
+})
+does (statement.Place at placed) p q said n b is = subst (λ (x : Progress). BoundsAlone x (n + 1)) (sym is.0) (λ alone. absurd (cc))
+does (statement.Submit id ops info) p q said n b is = subst (λ (x : Progress). BoundsAlone x (n + 1)) (sym is.0) (λ alone. record {
+  nonces = omega (arith, (b alone).nonces, length-append p.waiting (record { id = id; ops = ops; info = info } ∷ []));
+  numbers = λ key. omega (arith, (b alone).numbers key, length-append p.waiting (record { id = id; ops = ops; info = info } ∷ []));
+})
+does (statement.Go plan) p q said n b runs alone = bounds_more q n (ran p q said n (b (sym runs.alone ∙ alone)) runs)
+does (statement.Resume id) p q said n b none = elim none [ ]
+does statement.Prune p q said n b none = elim none [ ]
+does statement.Purge p q said n b none = elim none [ ]
+does statement.Audit p q said n b none = elim none [ ]
+does statement.Show p q said n b shown = told p q said _ n b shown
+does statement.Export p q said n b shown = told p q said _ n b shown
+does statement.Order p q said n b shown = told p q said _ n b shown
+
+plays_as : (r : Result (Option Statement) ScriptFault) (p q : Progress) (said : Answer) (n : ℕ) → BoundsAlone p n → PlaysAs r p q said → BoundsAlone q (n + 1)
+plays_as (Ok None) p q said n b same = subst (λ (x : Progress). BoundsAlone x (n + 1)) (sym same.0) (λ alone. bounds_more p n (b alone))
+plays_as (Ok (Some s)) p q said n b d = does s p q said n b d.performs
+plays_as (Err why) p q said n b none = elim none [ ]
 
 counter_empty : counter empty ≡ 0
 unfolding counter
@@ -80,15 +94,16 @@ number_empty : (key : Key) → number_at empty key ≡ 0
 unfolding doc_at
 number_empty key = ap (λ (o : Option Cell). size_of (option_and_then as_doc o)) (get-empty name_cmp (name.Doc key))
 
-begins : (c : Content) (from calls : ℕ) → c ≡ empty → Bounds (record (opening c from) { calls = calls }) 0
-begins c from calls none = subst (λ (x : Content). Bounds (record (opening x from) { calls = calls }) 0) (sym none) (record { nonces = omega (arith, counter_empty); numbers = λ key. omega (arith, number_empty key) })
+begins : (c : Content) (from calls : ℕ) → BoundsAlone (record (opening c from) { calls = calls }) 0
+begins c from calls alone = subst (λ (x : Content). Bounds (record (opening x from) { calls = calls }) 0) (sym (none_is_empty c alone)) (record { nonces = omega (arith, counter_empty); numbers = λ key. omega (arith, number_empty key) })
 
-bounded : (script : List ℕ) (trail : ℕ → Content) (c : Content) (from : ℕ) → c ≡ empty → (n : ℕ) (p : Progress) (answers : List Answer) → Plays script trail (opening c from) n p answers → Bounds p n
-bounded script trail c from none _ _ _ (Plays.Opens calls follows) = begins c from calls none
-bounded script trail c from none _ _ _ (Plays.Line m line p q answers answer plays first did follows) = plays_as (line_in line) p q answer m (bounded script trail c from none m p answers plays) did
-bounded script trail c from none _ _ _ (Plays.Batch m p q answers answer plays lets batch follows) = ran p q answer m (bounded script trail c from none m p answers plays) batch.runs
+bounded : (script : List ℕ) (trail : ℕ → Content) (c : Content) (from : ℕ) (n : ℕ) (p : Progress) (answers : List Answer) → Plays script trail (opening c from) n p answers → BoundsAlone p n
+bounded script trail c from _ _ _ (Plays.Opens calls follows) = begins c from calls
+bounded script trail c from _ _ _ (Plays.Line m line p q answers said plays first did follows) = plays_as (line_in line) p q said m (bounded script trail c from m p answers plays) did
+bounded script trail c from _ _ _ (Plays.Batch m p q answers said plays lets batch follows) alone = ran p q said m (bounded script trail c from m p answers plays (sym batch.runs.alone ∙ alone)) batch.runs
 
-pub suffices_at : (script : List ℕ) (trail : ℕ → Content) (c : Content) (from : ℕ) → has_no_cell c ≡ true → (n : ℕ) (p : Progress) (answers : List Answer) → Plays script trail (opening c from) n p answers → n ≤ 268435456 → Suffices p.content (length p.waiting)
-suffices_at script trail c from none n p answers plays short =
-    let b = bounded script trail c from (none_is_empty c none) n p answers plays in
+pub suffices_at : (script : List ℕ) (trail : ℕ → Content) (c : Content) (from : ℕ) (n : ℕ) (p : Progress) (answers : List Answer) → Plays script trail (opening c from) n p answers → n ≤ 268435456
+    → IsTrue p.documents_alone → Suffices p.content (length p.waiting)
+suffices_at script trail c from n p answers plays short alone =
+    let b = bounded script trail c from n p answers plays alone in
     record { nonces = omega (arith, b.nonces, short); numbers = λ key. omega (arith, b.numbers key, short) }

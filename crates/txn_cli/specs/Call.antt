@@ -8,14 +8,14 @@ use Rattle.txn_io.specs.Lines.{IsPartTaken}
 use Rattle.txn_io.specs.declared.sink.Sink as sink
 use Rattle.txn_io.specs.declared.source.Source as source
 use Rattle.txn_play.specs.Remains.{HasLeft, Holding, Stays}
-use Rattle.txn_play.specs.Progress.{Progress, opening}
-use Rattle.txn_play.specs.Runs.{AreFaithful}
+use Rattle.txn_play.specs.Progress.{Progress, holding_at, opening}
+use Rattle.txn_play.specs.Runs.{EachRun, IsFaithfulRun}
 use Rattle.txn_play.specs.declared.answer.Answer.{Answer}
 use Rattle.txn_play.specs.declared.refusal.Refusal.{Refusal}
 use Rattle.txn_play.specs.declared.run.Run.{Run}
 use Rattle.txn_cli.specs.Faults.{Circumstances, IsCaused, NoneSpent, circumstances, counts, refusal_in}
 use Rattle.txn_cli.specs.Output.{Writing, Wrote, WroteOrFailed, WrotePart, answer_text, answers_text, fault_text, prints, writing}
-use Rattle.txn_cli.specs.Script.{DoesNext, IsPlayed, PlaysTo, Reached, Refuses, after_lines, next_may_run, next_of}
+use Rattle.txn_cli.specs.Script.{DoesNext, IsPlayed, Plays, Reached, Refuses, after_lines, next_may_run, next_of}
 use Rattle.txn_cli.specs.Words.{is_grammar}
 use Rattle.txn_cli.specs.declared.done.Done.{Done}
 use Rattle.txn_cli.specs.declared.fault.Fault.{Fault}
@@ -61,10 +61,7 @@ pub record HasPlayed (script : List ℕ) (start : Progress) (end : Held) (w : Wr
 -- ---- what a refusal leaves
 
 abbrev pub holding_in : Held → Holding
-holding_in end = record { content = end.content; runs = end.runs }
-
-abbrev pub holding_at : Progress → Holding
-holding_at p = record { content = p.content; runs = p.runs }
+holding_in end = record { content = end.content; calls = end.calls; runs = end.runs }
 
 abbrev pub LeftAs : Option Refusal → Bool → Progress → Held → Type 0
 LeftAs None may_run p end = Stays (holding_at p) (holding_in end)
@@ -141,7 +138,7 @@ EndsWith Caused taken reached end w why =
 pub record HasRefused (Caused : Fault → Type 0) (taken : Taken) (start : Progress) (end : Held)
     (w : Writing) (why : Fault) : Type 0 where
   pub reached : Reached
-  pub plays : PlaysTo taken.script end.trail start reached
+  pub plays : Plays taken.script end.trail start reached.count reached.last reached.answers
   pub later : reached.last.calls ≤ end.calls
   pub unspent : NoneSpent why
   pub ends : EndsWith Caused taken reached end w why
@@ -158,7 +155,7 @@ StopsWith taken reached end w why =
 pub record HasStopped (taken : Taken) (start : Progress) (end : Held) (w : Writing) (why : Fault)
     : Type 0 where
   pub reached : Reached
-  pub plays : PlaysTo taken.script end.trail start reached
+  pub plays : Plays taken.script end.trail start reached.count reached.last reached.answers
   pub later : reached.last.calls ≤ end.calls
   pub unspent : NoneSpent why
   pub stops : StopsWith taken reached end w why
@@ -189,8 +186,8 @@ returned done input output =
 
 -- over a store that tells, each Run is faithful
 abbrev pub HasFaithfulRuns : {S : Type 0} → Ghosts S → Done S → Type 0
-HasFaithfulRuns store done =
-    IsTrue store.tells → AreFaithful (store.trail done.store) done.runs.items (store.calls done.store)
+HasFaithfulRuns store done = IsTrue store.tells
+    → EachRun (IsFaithfulRun (store.trail done.store)) done.runs.items (store.calls done.store)
 
 -- by what a refusal of it is judged
 abbrev pub judged : {S I O : Type 0} → source.Ghosts I → sink.Ghosts O → Given S I O → Returned S I O

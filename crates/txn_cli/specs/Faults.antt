@@ -1,5 +1,5 @@
 -- Why a line was not done, and why a call ended before the end of its script.
-use Rattle.std.specs.Prelude.{◌≡◌, ◌≤◌, ◌⊎◌, ℕ, Bool, false, IsTrue, Option, Some, None, IfSome, Result, IsErrOf, codes}
+use Rattle.std.specs.Prelude.{◌≡◌, ◌≤◌, ◌⊎◌, ℕ, Bool, false, List, IsTrue, Option, Some, None, IfSome, Result, IsErrOf, codes}
 use Rattle.store_trait.specs.Calls.{Rose}
 use Rattle.store_trait.specs.declared.store.Store.{Ghosts}
 use Rattle.txn_io.specs.declared.lines.LineFault.{LineFault}
@@ -8,6 +8,8 @@ use Rattle.txn_script.specs.Faults.{fault_text as script_text}
 use Rattle.txn_script.specs.declared.fault.ScriptFault.{ScriptFault}
 use Rattle.txn_script.specs.declared.fault.ScriptFault.TheVariants as script_fault
 use Rattle.txn_play.specs.Refusals.{HasCause, HasReason, IsUnspent}
+use Rattle.txn_play.specs.declared.objection.Objection.{Objection}
+use Rattle.txn_play.specs.declared.objection.Objection.TheVariants as objection
 use Rattle.txn_play.specs.declared.refusal.Refusal.{Refusal}
 use Rattle.txn_play.specs.declared.refusal.Refusal.TheVariants as refusal
 use Rattle.txn_cli.specs.declared.fault.Fault.{Fault}
@@ -28,9 +30,17 @@ status_of (fault.Repeated _) = 11
 
 -- ---- a line's refusal
 
+-- the text by which a line is refused for what stands against its statement
+abbrev pub objection_text : Objection → List ℕ
+objection_text objection.PlacedTooLate = codes "placed too late"
+objection_text objection.PlacedTwice = codes "placed twice"
+objection_text objection.TooManyWaiting = codes "too many waiting"
+objection_text objection.IdExists = codes "id exists"
+objection_text objection.NotBuilt = codes "not built yet"
+
 -- how what stopped a line ends the call, where that line has the number
 abbrev pub fault_of_refusal : ℕ → Refusal → Fault
-fault_of_refusal number refusal.NotBuilt = fault.Line number (script_text script_fault.NotBuilt)
+fault_of_refusal number (refusal.Objected why) = fault.Line number (objection_text why)
 fault_of_refusal number refusal.Store = fault.Store
 fault_of_refusal number refusal.OutOfMemory = fault.OutOfMemory
 fault_of_refusal number (refusal.Spent error) = fault.Spent error

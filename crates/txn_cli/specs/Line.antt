@@ -1,22 +1,22 @@
 -- What a call for a line, or for a batch that waits, does to the session and writes.
-use Rattle.std.specs.Prelude.{◌≡◌, ◌≤◌, ◌⊎◌, ℕ, Bool, true, false, List, [], ◌∷◌, IfSome}
+use Rattle.std.specs.Prelude.{◌≡◌, ◌≤◌, ◌⊎◌, ℕ, Bool, true, false, List, [], ◌∷◌, Option, IfSome, IfErr, Result}
 use Rattle.store_trait.specs.declared.store.Store.{Ghosts}
 use Rattle.txn_script.specs.Faults.{fault_text as script_text}
 use Rattle.txn_script.specs.Statements.{line_in}
-use Rattle.txn_script.specs.declared.fault.ScriptFault.TheVariants.{NotBuilt}
 use Rattle.txn_script.specs.declared.statement.Statement.{Statement}
 use Rattle.txn_runner.specs.declared.waiting.Waiting.{Waiting}
 use Rattle.txn_play.specs.Remains.{HasLeft, Stays}
-use Rattle.txn_play.specs.Progress.{Progress, Does, RunsItself, runs_batch}
-use Rattle.txn_play.specs.Sessions.{IsCaused, at, holding}
+use Rattle.txn_play.specs.Progress.{Progress, Does, RunsItself, objection_at_end, runs_batch}
+use Rattle.txn_play.specs.Sessions.{IsAgainst, IsCaused, IsKept, at, holding}
 use Rattle.txn_play.specs.declared.answer.Answer.{Answer}
 use Rattle.txn_play.specs.declared.answer.Answer.TheVariants.{Nothing}
+use Rattle.txn_play.specs.declared.objection.Objection.{Objection}
 use Rattle.txn_play.specs.declared.refusal.Refusal.{Refusal}
 use Rattle.txn_play.specs.declared.refusal.Refusal.TheVariants as refusal
 use Rattle.txn_play.specs.declared.session.Session.{Session}
-use Rattle.txn_cli.specs.Faults.{refusal_in_stop}
+use Rattle.txn_cli.specs.Faults.{Counts, FailsOnly, objection_text, refusal_in_stop}
 use Rattle.txn_cli.specs.Output.{Writing, Wrote, WrotePart, answer_text, prints}
-use Rattle.txn_cli.specs.Script.{PlaysLine, RefusedAs, Stated, line_lets_run, line_may_run}
+use Rattle.txn_cli.specs.Script.{PlaysAs, RefusedAs, Stated, line_lets_run, line_may_run}
 use Rattle.txn_cli.specs.declared.stop.Stop.{Stop}
 use Rattle.txn_cli.specs.declared.stop.Stop.TheVariants as stop
 
@@ -51,7 +51,7 @@ abbrev pub performing : Statement → Deed
 performing s = record { does = Does s; may_run = runs_batch s }
 
 abbrev pub playing : List ℕ → Deed
-playing line = record { does = PlaysLine line; may_run = line_may_run (line_in line) }
+playing line = record { does = PlaysAs (line_in line); may_run = line_may_run (line_in line) }
 
 -- this was done, and its answer was written
 pub record HasDone {S : Type 0} (store : Ghosts S) (Did : Progress → Progress → Answer → Type 0)
@@ -94,14 +94,18 @@ LeftBy store deed old new w stop.Output = HasDoneCut store deed old new w
 -- a line is refused by the text of what stopped it, where that has one
 abbrev pub RefusedBy : Stated → Progress → Stop → Type 0
 RefusedBy stated p (stop.Misread why) = RefusedAs stated p (script_text why)
-RefusedBy stated p (stop.Refused refusal.NotBuilt) = RefusedAs stated p (script_text NotBuilt)
+RefusedBy stated p (stop.Refused (refusal.Objected why)) = RefusedAs stated p (objection_text why)
 RefusedBy stated p _ = Unit {0}
 
--- what stops a line that was read: where its statement isn't built, this holds
-abbrev pub RefusedWhere : Type 0 → Stop → Type 0
-RefusedWhere where_ (stop.Misread why) = ⊥
-RefusedWhere where_ (stop.Refused refusal.NotBuilt) = where_
-RefusedWhere where_ _ = Unit {0}
+-- what stops a statement that was read; where something stands against it, it is this
+abbrev pub StoppedFor : Option Objection → Stop → Type 0
+StoppedFor against (stop.Misread why) = ⊥
+StoppedFor against (stop.Refused why) = IsAgainst against why
+StoppedFor against stop.Output = Unit {0}
+
+-- what stops a batch that a statement lets run first
+abbrev pub StoppedFirst : Bool → Progress → Stop → Type 0
+StoppedFirst lets p why = (lets ≡ true) × StoppedFor (objection_at_end p) why
 
 -- the session between the two steps of a line, with what was written by then
 pub record Between (S : Type 0) : Type 0 where
@@ -128,7 +132,7 @@ pub record HasDoneLine {S : Type 0} (store : Ghosts S) (line : List ℕ) (old ne
     : Type 0 where
   pub between : Between S
   pub first : HasRunFirst store line old new w between
-  pub done : HasDone store (PlaysLine line) between.session new (from w between)
+  pub done : HasDone store (PlaysAs (line_in line)) between.session new (from w between)
 
 -- a line was stopped, at the first step or at the second
 pub data HasStoppedLine {S : Type 0} (store : Ghosts S) (line : List ℕ) (old new : Session S) (w : Writing)
@@ -144,3 +148,11 @@ pub data HasStoppedLine {S : Type 0} (store : Ghosts S) (line : List ℕ) (old n
 -- the refusal of a statement that stopped a line has its cause
 abbrev pub StopsFor : {S : Type 0} → Ghosts S → Session S → Session S → Stop → Type 0
 StopsFor store old new why = IfSome (refusal_in_stop why) (IsCaused store old new)
+
+-- What each call for a line keeps: the session, and the count of the output's failures; a refusal has its
+-- cause.
+pub record IsKeptLine {S : Type 0} (store : Ghosts S) (old new : Session S) (output : Counts)
+    (result : Result (Unit {0}) Stop) : Type 0 where
+  pub session : IsKept store old new result
+  pub caused : IfErr result (StopsFor store old new)
+  pub output : FailsOnly output result stop.Output

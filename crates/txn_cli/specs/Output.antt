@@ -1,5 +1,5 @@
 -- What the program prints, and what was written of it.
-use Rattle.std.specs.Prelude.{◌≡◌, ◌⊎◌, ℕ, Bool, true, false, IsTrue, List, [], ◌∷◌, ◌++◌, codes}
+use Rattle.std.specs.Prelude.{◌≡◌, ◌⊎◌, ◌+◌, ℕ, Bool, true, false, IsTrue, List, [], ◌∷◌, ◌++◌, codes}
 use Rattle.std.specs.Fmt.{decimal}
 use Rattle.std.specs.List.{flat_map}
 use Rattle.std.specs.FinMap.{entries}
@@ -7,11 +7,12 @@ use Rattle.txn_io.specs.Pour.{IsPartPut}
 use Rattle.txn_io.specs.declared.sink.Sink.{Ghosts}
 use Rattle.txn_key.specs.Documents.{Docs}
 use Rattle.txn_key.specs.Ids.{id_text, token_text}
+use Rattle.txn_record.specs.declared.entry.Entry.{Entry}
 use Rattle.txn_record.specs.declared.state.State.{State}
 use Rattle.txn_record.specs.declared.state.State.TheVariants as state
-use Rattle.txn_script.specs.Texts.{document_line, key_text}
+use Rattle.txn_script.specs.Texts.{cell_line, document_line, entry_line, key_text}
 use Rattle.txn_play.specs.declared.answer.Answer.{Answer}
-use Rattle.txn_play.specs.declared.answer.Answer.TheVariants.{Nothing, States, Documents}
+use Rattle.txn_play.specs.declared.answer.Answer.TheVariants.{Nothing, States, Documents, Cells, Order}
 use Rattle.txn_play.specs.declared.answer.RecordState.{RecordState}
 use Rattle.txn_cli.specs.declared.fault.Fault.{Fault}
 use Rattle.txn_cli.specs.declared.fault.Fault.TheVariants as fault
@@ -39,16 +40,25 @@ state_word state.Applied = codes "applied"
 abbrev pub state_line : RecordState → List ℕ
 state_line it = line (id_text it.id ++ codes " " ++ state_word it.state)
 
+-- a line for each decision, with its number from the first one's on
+abbrev pub order_text : ℕ → List Entry → List ℕ
+order_text number [] = []
+order_text number (entry ∷ entries) = entry_line number entry ++ order_text (number + 1) entries
+
 abbrev pub answer_text : Answer → List ℕ
 answer_text Nothing = []
 answer_text (States states) = flat_map state_line states
 answer_text (Documents docs) = documents_text docs
+answer_text (Cells cells) = flat_map cell_line cells
+answer_text (Order entries) = order_text 1 entries
 
 -- whether an answer is printed
 abbrev pub prints : Answer → Bool
 prints Nothing = false
 prints (States _) = true
 prints (Documents _) = true
+prints (Cells _) = true
+prints (Order _) = true
 
 abbrev pub answers_text : List Answer → List ℕ
 answers_text answers = flat_map answer_text answers

@@ -1,5 +1,5 @@
 -- A script, line by line: which lines were done, and which is refused.
-use Rattle.std.specs.Prelude.{◌≡◌, ◌≢◌, ◌≤◌, ℕ, zero, suc, ◌+◌, Bool, true, false, List, [], ◌∷◌, ◌++◌, Option, Some, None, Result, Ok, Err, codes, if◌then◌else◌}
+use Rattle.std.specs.Prelude.{◌≡◌, ◌≤◌, ℕ, zero, suc, ◌+◌, Bool, true, false, List, [], ◌∷◌, ◌++◌, Option, Some, None, Result, Ok, Err, codes, if◌then◌else◌}
 use Rattle.store_trait.specs.Contents.{Content}
 use Rattle.txn_io.specs.Lines.{after_line, line_cost, reading}
 use Rattle.txn_io.specs.declared.lines.LineFault.{LineFault}
@@ -7,11 +7,12 @@ use Rattle.txn_io.specs.declared.lines.LineFault.TheVariants as line_fault
 use Rattle.txn_script.specs.Faults.{fault_text as script_text}
 use Rattle.txn_script.specs.Statements.{line_in}
 use Rattle.txn_script.specs.declared.fault.ScriptFault.{ScriptFault}
-use Rattle.txn_script.specs.declared.fault.ScriptFault.TheVariants.{NotBuilt}
 use Rattle.txn_script.specs.declared.statement.Statement.{Statement}
-use Rattle.txn_play.specs.Progress.{Progress, Does, RunsItself, is_allowed, lets_run, runs_batch}
+use Rattle.txn_play.specs.Progress.{Progress, Does, RunsItself, lets_run, objection_at_end, objection_to, runs_batch}
 use Rattle.txn_play.specs.declared.answer.Answer.{Answer}
 use Rattle.txn_play.specs.declared.answer.Answer.TheVariants.{Nothing}
+use Rattle.txn_play.specs.declared.objection.Objection.{Objection}
+use Rattle.txn_cli.specs.Faults.{objection_text}
 
 -- what a line states, or the fault by which it is none
 abbrev pub Stated : Type 0
@@ -22,9 +23,6 @@ abbrev pub PlaysAs : Stated → Progress → Progress → Answer → Type 0
 PlaysAs (Ok None) p q answer = (q ≡ p) × (answer ≡ Nothing)
 PlaysAs (Ok (Some s)) p q answer = Does s p q answer
 PlaysAs (Err _) p q answer = ⊥
-
-abbrev pub PlaysLine : List ℕ → Progress → Progress → Answer → Type 0
-PlaysLine line p q answer = PlaysAs (line_in line) p q answer
 
 -- the bytes of a script behind its first n lines
 abbrev pub after_lines : ℕ → List ℕ → List ℕ
@@ -66,7 +64,7 @@ pub data Plays (script : List ℕ) (trail : ℕ → Content) (start : Progress) 
       → Plays script trail start 0 (record start { calls = calls }) []
   Line : (n : ℕ) (line : List ℕ) (p q : Progress) (answers : List Answer) (answer : Answer)
       → Plays script trail start n p answers → next_of n script ≡ Ok (Some line)
-      → PlaysLine line p q answer → Follows trail p q
+      → PlaysAs (line_in line) p q answer → Follows trail p q
       → Plays script trail start (n + 1) q (answers ++ answer ∷ [])
   Batch : (n : ℕ) (p q : Progress) (answers : List Answer) (answer : Answer)
       → Plays script trail start n p answers → next_lets_run (next_of n script) ≡ true
@@ -79,35 +77,37 @@ pub record Reached : Type 0 where
   pub last : Progress
   pub answers : List Answer
 
-abbrev pub PlaysTo : List ℕ → (ℕ → Content) → Progress → Reached → Type 0
-PlaysTo script trail start reached = Plays script trail start reached.count reached.last reached.answers
-
 -- every line of a script was done, and nothing waits any more
 pub record IsPlayed (script : List ℕ) (trail : ℕ → Content) (start : Progress) (reached : Reached)
     : Type 0 where
-  pub plays : PlaysTo script trail start reached
+  pub plays : Plays script trail start reached.count reached.last reached.answers
   pub ended : after_lines reached.count script ≡ []
   pub none_waits : reached.last.waiting ≡ []
 
 -- what comes next was done: a batch ran by itself, or the next line was done
 pub data DoesNext (script : List ℕ) (n : ℕ) (p q : Progress) (answer : Answer) : Type 0 where
   Batch : next_lets_run (next_of n script) ≡ true → RunsItself p q answer → DoesNext script n p q answer
-  Line : (line : List ℕ) → next_of n script ≡ Ok (Some line) → PlaysLine line p q answer
+  Line : (line : List ℕ) → next_of n script ≡ Ok (Some line) → PlaysAs (line_in line) p q answer
       → DoesNext script n p q answer
 
 -- ---- what is refused
 
--- a line is refused by that text: by the one of its fault, or as a statement that isn't built
+-- the text of what stands against a statement, where something does
+abbrev pub RefusedFor : Option Objection → List ℕ → Type 0
+RefusedFor None text = ⊥
+RefusedFor (Some why) text = text ≡ objection_text why
+
+-- a line is refused by that text: by the one of its fault, or of what stands against its statement
 abbrev pub RefusedAs : Stated → Progress → List ℕ → Type 0
 RefusedAs (Ok None) p text = ⊥
-RefusedAs (Ok (Some s)) p text = (is_allowed p s ≡ false) × (text ≡ script_text NotBuilt)
+RefusedAs (Ok (Some s)) p text = RefusedFor (objection_to p s) text
 RefusedAs (Err why) p text = text ≡ script_text why
 
 -- What comes next is refused by that text: a line for what it states, by its length, or by that of the
 -- script up to it; or the end, where a batch waits that may not run.
 abbrev pub Refuses : Result (Option (List ℕ)) LineFault → Progress → List ℕ → Type 0
 Refuses (Ok (Some line)) p text = RefusedAs (line_in line) p text
-Refuses (Ok None) p text = (p.was_empty ≡ false) × (p.waiting ≢ []) × (text ≡ script_text NotBuilt)
+Refuses (Ok None) p text = RefusedFor (objection_at_end p) text
 Refuses (Err line_fault.TooLong) p text = text ≡ codes "too long"
 Refuses (Err line_fault.ScriptTooLong) p text = text ≡ codes "script too long"
 Refuses (Err _) p text = ⊥

@@ -16,8 +16,7 @@ use crate::done::Done;
 use crate::fault::Fault;
 use crate::line::{play_line, run_waiting};
 use crate::output::tell;
-use crate::stop::Stop;
-use doc_value::Text;
+use crate::stop::{Stop, refused_by};
 use std::alloc::Global;
 use store_trait::Store;
 use txn_io::{LineFault, Lines, Sink, Source};
@@ -77,7 +76,7 @@ pub fn command<S: Store, I: Source, O: Sink>(
         runs: Vec::new(alloc),
         batch: Batch::new(alloc),
         begun: false,
-        was_empty: true,
+        documents_alone: true,
     };
     let played = run(alloc, words, &mut session, input, output);
     let Session {
@@ -85,7 +84,7 @@ pub fn command<S: Store, I: Source, O: Sink>(
         runs,
         batch: _,
         begun: _,
-        was_empty: _,
+        documents_alone: _,
     } = session;
     match played {
         Ok(()) => Done {
@@ -139,7 +138,7 @@ fn run<S: Store, I: Source, O: Sink>(
         return Err(Fault::Words);
     }
     match is_empty(alloc, &mut session.store) {
-        Ok(answer) => session.was_empty = answer,
+        Ok(answer) => session.documents_alone = answer,
         Err(refusal) => return Err(Stop::Refused(refusal).at_line(alloc, 1)),
     }
     let mut lines = Lines::new();
@@ -210,18 +209,8 @@ fn line_fault(alloc: Global, number: u64, fault: LineFault) -> Fault
 {
     match fault {
         LineFault::ReadFault => Fault::Input,
-        LineFault::TooLong => refused(alloc, number, "too long"),
-        LineFault::ScriptTooLong => refused(alloc, number, "script too long"),
+        LineFault::TooLong => refused_by(alloc, number, "too long"),
+        LineFault::ScriptTooLong => refused_by(alloc, number, "script too long"),
         LineFault::OutOfMemory => Fault::OutOfMemory,
-    }
-}
-
-/// The refusal of a line, by one of the texts of refusals.
-fn refused(alloc: Global, line: u64, text: &str) -> Fault
-    ensures { (result ≡ Fault.Line line text.now) ⊎ (result ≡ Fault.OutOfMemory) }
-{
-    match Text::from_str(alloc, text) {
-        Ok(text) => Fault::Line { line, text },
-        Err(_) => Fault::OutOfMemory,
     }
 }

@@ -1,18 +1,18 @@
 //! One line of a script: what it states is done, and what that answers is written.
 
-ghost use Rattle.std.specs.Prelude.{◌≡◌, ◌≢◌, [], true, false, IsTrue, OnOk, IfErr};
-ghost use Rattle.txn_cli.specs.Faults.{FailsOnly, counts};
-ghost use Rattle.txn_cli.specs.Line.{HasDone, HasDoneLine, HasStoppedLine, LeftBy, RefusedWhere, RunsFirst, RunsWaiting, StopsFor, performing, running, running_first};
+ghost use Rattle.std.specs.Prelude.{◌≡◌, [], true, IsTrue, OnOk, IfErr};
+ghost use Rattle.txn_cli.specs.Faults.{counts};
+ghost use Rattle.txn_cli.specs.Line.{HasDone, HasDoneLine, HasStoppedLine, IsKeptLine, LeftBy, RunsFirst, RunsWaiting, StoppedFirst, StoppedFor, performing, running, running_first};
 ghost use Rattle.txn_cli.specs.Output.{writing};
-ghost use Rattle.txn_play.specs.Progress.{Does, is_allowed, lets_run};
-ghost use Rattle.txn_play.specs.Sessions.{IsKept, Stands, at};
+ghost use Rattle.txn_play.specs.Progress.{Does, lets_run, objection_at_end, objection_to};
+ghost use Rattle.txn_play.specs.Sessions.{Stands, at};
 
 use crate::output::write_answer;
 use crate::stop::Stop;
 use std::alloc::Global;
 use store_trait::Store;
 use txn_io::Sink;
-use txn_play::Session;
+use txn_play::{Session, lets_run};
 use txn_script::{Statement, read_line};
 
 /// Does what a line states, and writes what that answers. A batch that waits is run first, as a statement of
@@ -30,10 +30,8 @@ pub fn play_line<S: Store, O: Sink>(
     ensures stopped { IsTrue S.tells → IfErr result
         (HasStoppedLine S.Store line.now session.old session.new
         (writing O.Sink output.old output.new)) }
-    ensures caused { IfErr result (StopsFor S.Store session.old session.new) }
-    ensures kept { IsKept S.Store session.old session.new result }
-    ensures output { FailsOnly (counts (O.faults output.old) (O.faults output.new)) result
-        Stop.Output }
+    ensures kept { IsKeptLine S.Store session.old session.new
+        (counts (O.faults output.old) (O.faults output.new)) result }
 {
     match read_line(alloc, line) {
         Ok(None) => Ok(()),
@@ -60,25 +58,16 @@ fn run_first<S: Store, O: Sink>(
         (LeftBy S.Store (running_first (lets_run statement.now))
         session.old session.new (writing O.Sink output.old output.new)) }
     ensures cleared { lets_run statement.now ≡ true → OnOk result (session.new.batch ≡ []) }
-    ensures refused { IfErr result
-        (RefusedWhere ((lets_run statement.now ≡ true) × (session.old.was_empty ≡ false))) }
-    ensures caused { IfErr result (StopsFor S.Store session.old session.new) }
-    ensures kept { IsKept S.Store session.old session.new result }
-    ensures output { FailsOnly (counts (O.faults output.old) (O.faults output.new)) result
-        Stop.Output }
+    ensures against { IfErr result
+        (StoppedFirst (lets_run statement.now) (at S.Store session.old)) }
+    ensures kept { IsKeptLine S.Store session.old session.new
+        (counts (O.faults output.old) (O.faults output.new)) result }
 {
     if lets_run(statement) {
         run_waiting(alloc, session, output)
     } else {
         Ok(())
     }
-}
-
-/// Whether a statement first lets a batch run that waits.
-fn lets_run(statement: &Statement) -> bool
-    ensures { result ≡ lets_run statement.now }
-{
-    matches!(statement, Statement::Show)
 }
 
 /// Runs the batch, where one waits, and writes how its records stand.
@@ -93,12 +82,9 @@ pub fn run_waiting<S: Store, O: Sink>(
     ensures left { IsTrue S.tells → IfErr result (LeftBy S.Store running
         session.old session.new (writing O.Sink output.old output.new)) }
     ensures cleared { OnOk result (session.new.batch ≡ []) }
-    ensures refused { IfErr result
-        (RefusedWhere ((session.old.was_empty ≡ false) × (session.old.batch ≢ []))) }
-    ensures caused { IfErr result (StopsFor S.Store session.old session.new) }
-    ensures kept { IsKept S.Store session.old session.new result }
-    ensures output { FailsOnly (counts (O.faults output.old) (O.faults output.new)) result
-        Stop.Output }
+    ensures against { IfErr result (StoppedFor (objection_at_end (at S.Store session.old))) }
+    ensures kept { IsKeptLine S.Store session.old session.new
+        (counts (O.faults output.old) (O.faults output.new)) result }
 {
     if session.batch.is_empty() {
         return Ok(());
@@ -115,18 +101,15 @@ fn play_statement<S: Store, O: Sink>(
     statement: Statement,
 ) -> Result<(), Stop>
     requires stands { Stands S.Store session.old }
-    requires cleared { lets_run statement ≡ true → IsTrue session.old.was_empty →
-        session.old.batch ≡ [] }
+    requires cleared { lets_run statement ≡ true → session.old.batch ≡ [] }
     ensures done { IsTrue S.tells → OnOk result (HasDone S.Store (Does statement)
         session.old session.new (writing O.Sink output.old output.new)) }
     ensures left { IsTrue S.tells → IfErr result (LeftBy S.Store (performing statement)
         session.old session.new (writing O.Sink output.old output.new)) }
-    ensures refused { IfErr result
-        (RefusedWhere (IsTrue S.tells → is_allowed (at S.Store session.old) statement ≡ false)) }
-    ensures caused { IfErr result (StopsFor S.Store session.old session.new) }
-    ensures kept { IsKept S.Store session.old session.new result }
-    ensures output { FailsOnly (counts (O.faults output.old) (O.faults output.new)) result
-        Stop.Output }
+    ensures against { IsTrue S.tells → IfErr result
+        (StoppedFor (objection_to (at S.Store session.old) statement)) }
+    ensures kept { IsKeptLine S.Store session.old session.new
+        (counts (O.faults output.old) (O.faults output.new)) result }
 {
     let answer = session.perform(alloc, statement)?;
     write_answer(alloc, output, &answer)

@@ -3,17 +3,18 @@
 ghost use Rattle.std.specs.Prelude.{◌≡◌, ◌++◌, OnErr, OnOk, IfOk, true};
 ghost use Rattle.std.specs.List.{flat_map};
 ghost use Rattle.txn_key.specs.Documents.{pairs_of};
-ghost use Rattle.txn_cli.specs.Output.{answer_text, fault_text, prints, state_line, state_word, step_text};
-ghost use Rattle.txn_script.specs.Texts.{document_line};
+ghost use Rattle.txn_cli.specs.Output.{answer_text, fault_text, order_text, prints, state_line, state_word, step_text};
+ghost use Rattle.txn_script.specs.Texts.{cell_line, document_line};
 
 use crate::fault::Fault;
 use doc_value::OutOfMemory;
 use std::alloc::Global;
 use txn_key::{Doc, Key, Token, TxnId};
 use txn_play::{Answer, RecordState};
-use txn_record::State;
+use store_trait::Named;
+use txn_record::{Entry, State};
 use txn_runner::StepError;
-use txn_script::{push_document, push_key};
+use txn_script::{push_cell, push_document, push_entry, push_key};
 
 /// The lines of what a statement answers.
 pub fn lines_of(alloc: Global, answer: &Answer) -> Result<Vec<u8>, OutOfMemory>
@@ -25,6 +26,8 @@ pub fn lines_of(alloc: Global, answer: &Answer) -> Result<Vec<u8>, OutOfMemory>
         Answer::Nothing => {}
         Answer::States(states) => push_states(alloc, &mut lines, states.as_slice())?,
         Answer::Documents(docs) => push_documents(&mut lines, docs.as_slice())?,
+        Answer::Cells(cells) => push_cells(alloc, &mut lines, cells.as_slice())?,
+        Answer::Order(entries) => push_order(alloc, &mut lines, entries.as_slice())?,
     }
     Ok(lines)
 }
@@ -36,6 +39,28 @@ fn push_documents(lines: &mut Vec<u8>, docs: &[Doc]) -> Result<(), OutOfMemory>
 {
     for doc in docs {
         push_document(lines, doc)?;
+    }
+    Ok(())
+}
+
+/// A line for each cell, in their order.
+fn push_cells(alloc: Global, lines: &mut Vec<u8>, cells: &[Named]) -> Result<(), OutOfMemory>
+    ensures { OnOk result (lines.new.items ≡ lines.old.items ++ flat_map cell_line cells.now) }
+{
+    for named in cells {
+        push_cell(alloc, lines, named)?;
+    }
+    Ok(())
+}
+
+/// A line for each decision, numbered from 1.
+fn push_order(alloc: Global, lines: &mut Vec<u8>, entries: &[Entry]) -> Result<(), OutOfMemory>
+    ensures { OnOk result (lines.new.items ≡ lines.old.items ++ order_text 1 entries.now) }
+{
+    let mut number = 1;
+    for entry in entries {
+        push_entry(alloc, lines, number, entry)?;
+        number += 1;
     }
     Ok(())
 }

@@ -1,12 +1,13 @@
 //! Why a line was not done to its end.
 
 ghost use Rattle.std.specs.Prelude.{◌≡◌, ◌⊎◌};
-ghost use Rattle.txn_cli.specs.Faults.{fault_of_stop, stop_of_reading, OrShort};
+ghost use Rattle.txn_cli.specs.Faults.{fault_of_stop, objection_text, stop_of_reading, OrShort};
 ghost use Rattle.txn_script.specs.Faults.{fault_text as script_text};
 
 use crate::fault::Fault;
+use doc_value::Text;
 use std::alloc::Global;
-use txn_play::Refusal;
+use txn_play::{Objection, Refusal};
 use txn_script::ScriptFault;
 
 /// Why a line was not done to its end. Its number is put on it by the loop over lines.
@@ -48,7 +49,7 @@ impl Stop {
     {
         match self {
             Stop::Misread(why) => refused_as(alloc, number, why),
-            Stop::Refused(Refusal::NotBuilt) => refused_as(alloc, number, ScriptFault::NotBuilt),
+            Stop::Refused(Refusal::Objected(why)) => refused_by(alloc, number, text_of(why)),
             Stop::Refused(Refusal::Store) => Fault::Store,
             Stop::Refused(Refusal::OutOfMemory) => Fault::OutOfMemory,
             Stop::Refused(Refusal::Spent(error)) => Fault::Spent(error),
@@ -64,6 +65,29 @@ fn refused_as(alloc: Global, line: u64, why: ScriptFault) -> Fault
     ensures { (result ≡ Fault.Line line (script_text why)) ⊎ (result ≡ Fault.OutOfMemory) }
 {
     match why.text(alloc) {
+        Ok(text) => Fault::Line { line, text },
+        Err(_) => Fault::OutOfMemory,
+    }
+}
+
+/// The text by which a line is refused for what stands against its statement.
+fn text_of(why: Objection) -> &'static str
+    ensures { result.now ≡ objection_text why }
+{
+    match why {
+        Objection::PlacedTooLate => "placed too late",
+        Objection::PlacedTwice => "placed twice",
+        Objection::TooManyWaiting => "too many waiting",
+        Objection::IdExists => "id exists",
+        Objection::NotBuilt => "not built yet",
+    }
+}
+
+/// The refusal of a line by a text.
+pub fn refused_by(alloc: Global, line: u64, text: &str) -> Fault
+    ensures { (result ≡ Fault.Line line text.now) ⊎ (result ≡ Fault.OutOfMemory) }
+{
+    match Text::from_str(alloc, text) {
         Ok(text) => Fault::Line { line, text },
         Err(_) => Fault::OutOfMemory,
     }

@@ -85,11 +85,11 @@ begun_left waiting trail old new refusal.OutOfMemory kind h un = inr (refl, h)
 begun_left waiting trail old new (refusal.Spent e) kind h un = inr (refl, h, un)
 begun_left waiting trail old new (refusal.Broken e) kind h un = inr (refl, h, un)
 begun_left waiting trail old new (refusal.Repeated id) kind h un = inr (refl, h, un)
-begun_left waiting trail old new refusal.NotBuilt kind h un = elim kind [ ]
+begun_left waiting trail old new (refusal.Objected w) kind h un = elim kind [ ]
 
 -- a refusal before it
 pub stays_left : (may_run : Bool) (waiting : List Waiting) (trail : ℕ → Content) (old new : Holding) (why : Refusal) → Stays old new → HasLeft may_run waiting trail old new why
-stays_left may_run waiting trail old new refusal.NotBuilt h = h
+stays_left may_run waiting trail old new (refusal.Objected w) h = h
 stays_left may_run waiting trail old new refusal.Store h = inl h
 stays_left may_run waiting trail old new refusal.OutOfMemory h = inl h
 stays_left may_run waiting trail old new (refusal.Spent e) h = inl h
@@ -98,7 +98,7 @@ stays_left may_run waiting trail old new (refusal.Repeated id) h = inl h
 
 -- where a batch may be on its way, it may be where more is allowed
 pub left_more : (a b : Bool) (waiting : List Waiting) (trail : ℕ → Content) (old new : Holding) (why : Refusal) → (a ≡ true → b ≡ true) → HasLeft a waiting trail old new why → HasLeft b waiting trail old new why
-left_more a b waiting trail old new refusal.NotBuilt more h = h
+left_more a b waiting trail old new (refusal.Objected w) more h = h
 left_more a b waiting trail old new refusal.Store more h = ⊎_elim inl (λ begun. inr (more begun.0, begun.1, begun.2)) h
 left_more a b waiting trail old new refusal.OutOfMemory more h = ⊎_elim inl (λ begun. inr (more begun.0, begun.1)) h
 left_more a b waiting trail old new (refusal.Spent e) more h = ⊎_elim inl (λ begun. inr (more begun.0, begun.1, begun.2)) h
@@ -133,19 +133,21 @@ module _ {S : Type 0} (store : Ghosts S) (old mid now : S) (waiting : List Waiti
       (runs_add (store.trail now) runs run (store.calls mid) (store.calls now) there mark (base ∙ ap meaning (sym still_there ∙ ap (store.trail now) mark)) has)
 
   pub batch_done : (before after : List Run) (states : List RecordState) → run.turns ≡ [] → after ≡ before ++ run ∷ [] → Uses (store.content mid) (store.content now) (length waiting) (length waiting) 0 0 → IsDoneWith (store.content now) waiting states
-      → HasRunBatch (store.content old) (store.content now) waiting before after states
+      → HasRunBatch (record { content = store.content old; calls = store.calls old; runs = before }) (record { content = store.content now; calls = store.calls now; runs = after }) waiting states
   batch_done before after states turns kept uses done = record {
     run = run;
     ran = subst (λ (c : Content). RanBatch c (store.content now) waiting run states) reads.same
         (ran_batch store mid now waiting run states may_mid (present mid) (present now) mark base turns works uses done has still_there);
     kept = kept;
+    since = omega (arith, mark, first.counted);
+    made = omega (arith, mark, second.counted);
   }
 
   pub batch_left : {T : Type 0} (result : Result T Refusal) (before after : List Run) → run.turns ≡ [] → after ≡ before ++ run ∷ [] → LeavesRecords (store.content now) [] run.order waiting → Uses (store.content mid) (store.content now) (length waiting) (length waiting) 0 0
       → IfErr result IsOfRun → IfErr result (LeavesUnfinished (store.content now) waiting)
-      → IfErr result (HasLeft true waiting (store.trail now) (record { content = store.content old; runs = before }) (record { content = store.content now; runs = after }))
+      → IfErr result (HasLeft true waiting (store.trail now) (record { content = store.content old; calls = store.calls old; runs = before }) (record { content = store.content now; calls = store.calls now; runs = after }))
   batch_left (Ok x) before after turns kept records uses kind un = tt
-  batch_left (Err why) before after turns kept records uses kind un = begun_left waiting (store.trail now) (record { content = store.content old; runs = before }) (record { content = store.content now; runs = after }) why kind (record {
+  batch_left (Err why) before after turns kept records uses kind un = begun_left waiting (store.trail now) (record { content = store.content old; calls = store.calls old; runs = before }) (record { content = store.content now; calls = store.calls now; runs = after }) why kind (record {
     run = run;
     kept = kept;
     opens = still_there ∙ reads.same;

@@ -41,7 +41,7 @@ module _ {S : Type 0} (store : Ghosts S) where
   caused_before first old new (refusal.Broken step.NoncesSpent) le h = h
   caused_before first old new (refusal.Broken (step.RevnoSpent key)) le h = h
   caused_before first old new (refusal.Broken (step.Lost token)) le h = h
-  caused_before first old new refusal.NotBuilt le h = tt
+  caused_before first old new (refusal.Objected w) le h = tt
   caused_before first old new refusal.Store le h = tt
   caused_before first old new refusal.OutOfMemory le h = tt
 
@@ -63,7 +63,7 @@ module _ {S : Type 0} (store : Ghosts S) where
   caused_otherwise c old new (refusal.Spent error) reason unspent = elim unspent [ ]
   caused_otherwise c old new (refusal.Broken error) reason unspent = elim reason [ ]
   caused_otherwise c old new (refusal.Repeated id) reason unspent = elim reason [ ]
-  caused_otherwise c old new refusal.NotBuilt reason unspent = tt
+  caused_otherwise c old new (refusal.Objected w) reason unspent = tt
   caused_otherwise c old new refusal.Store reason unspent = tt
   caused_otherwise c old new refusal.OutOfMemory reason unspent = tt
 
@@ -77,7 +77,7 @@ unspent c d n (refusal.Spent step.StoreFault) s u last = elim last [ ]
 unspent c d n (refusal.Spent (step.Lost z)) s u last = elim last [ ]
 unspent c d n (refusal.Spent (step.Clash id at)) s u last = elim last [ ]
 unspent c d n (refusal.Spent step.OutOfMemory) s u last = elim last [ ]
-unspent c d n refusal.NotBuilt s u last = tt
+unspent c d n (refusal.Objected w) s u last = tt
 unspent c d n refusal.Store s u last = tt
 unspent c d n refusal.OutOfMemory s u last = tt
 unspent c d n (refusal.Broken e) s u last = tt

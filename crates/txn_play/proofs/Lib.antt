@@ -1,6 +1,7 @@
 pub mod BatchRuns
 pub mod Batches
 pub mod Causing
+pub mod Cells
 pub mod IndexLaws
 pub mod OnlyReading
 pub mod Opening

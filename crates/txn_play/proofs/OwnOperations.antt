@@ -15,7 +15,7 @@ own_none c txn none rec there = absurd (both_ways (record_at c txn.id) there non
     both_ways : (o : Option Record) → o ≡ Some rec → o ≡ None → ⊥
     both_ways o p q = cc
 
-own_some : (c : Content) (txn : Waiting) (rec : Record) → record_at c txn.id ≡ Some rec → rec.ops ≡ txn.ops → rec.info ≡ None → HasOwnOperations c txn
+own_some : (c : Content) (txn : Waiting) (rec : Record) → record_at c txn.id ≡ Some rec → rec.ops ≡ txn.ops → rec.info ≡ txn.info → HasOwnOperations c txn
 own_some c txn rec there ops info other found =
     let same = only_one (record_at c txn.id) there found in
     (ap (λ (r : Record). r.ops) same ∙ ops, ap (λ (r : Record). r.info) same ∙ info)

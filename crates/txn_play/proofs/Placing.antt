@@ -1,26 +1,23 @@
--- What placing a document comes to.
-use Rattle.std.proofs.Common.{◌≡◌, Bool, true, false, not, Option, Some, None, is_some, IsTrue, refl, sym, ap, ◌∙◌}
+-- What placing a cell comes to.
+use Rattle.std.proofs.Common.{◌≡◌, Bool, true, false, ◌&&◌, Option, Some, None, is_some, is_none, refl, sym, ap, ◌∙◌}
 use Rattle.std.specs.Bool.{OnTrue}
 use Rattle.std.specs.FinMap.{get, insert}
-use Rattle.doc_value.specs.declared.value.Value.{Value}
-use Rattle.txn_key.specs.declared.key.Key.{Key}
 use Rattle.store_trait.specs.Calls.{IsMade}
 use Rattle.store_trait.specs.Contents.{Content}
 use Rattle.store_trait.specs.Edits.{hit_place, put_under}
+use Rattle.store_trait.specs.Names.{may_stand}
 use Rattle.store_trait.specs.declared.cell.Cell.{Cell}
 use Rattle.store_trait.specs.declared.edit.Edit.TheVariants as edit
 use Rattle.store_trait.specs.declared.edit.Edited.{Edited}
-use Rattle.store_trait.specs.declared.name.Name.TheVariants as name
-use Rattle.txn_runner.specs.Store.{has_document}
-use Rattle.txn_play.specs.Progress.{placed_doc}
+use Rattle.store_trait.specs.declared.name.Name.{Name}
 
-pub record Places (c : Content) (key : Key) (body : Value) (new : Content) (placed : Bool) : Type 0 where
-  pub absent : placed ≡ not (has_document c key)
-  pub made : OnTrue placed (new ≡ insert c (name.Doc key) (placed_doc body))
+pub record Places (c : Content) (at : Name) (cell : Cell) (new : Content) (placed : Bool) : Type 0 where
+  pub free : placed ≡ (is_none (get c at) && may_stand at cell)
+  pub made : OnTrue placed (new ≡ insert c at cell)
   pub missed : placed ≡ false → new ≡ c
 
-pub places : (c : Content) (key : Key) (body : Value) (new : Content) (done : Edited) → IsMade c (name.Doc key) (edit.Place (placed_doc body)) new done → Places c key body new done.hit
-places c key body new done m = by (get c (name.Doc key)) refl
+pub places : (c : Content) (at : Name) (cell : Cell) (new : Content) (done : Edited) → IsMade c at (edit.Place cell) new done → Places c at cell new done.hit
+places c at cell new done m = by (get c at) (may_stand at cell) refl refl
   where
     on_true : (b : Bool) (P : Type 0) → (b ≡ true → P) → OnTrue b P
     on_true true P p = p refl
@@ -29,18 +26,29 @@ places c key body new done m = by (get c (name.Doc key)) refl
     clash : {b : Bool} {A : Type 0} → b ≡ true → b ≡ false → A
     clash p q = absurd (cc)
 
-    by : (o : Option Cell) → get c (name.Doc key) ≡ o → Places c key body new done.hit
-    by None e =
-        let hits = m.hit ∙ ap (λ (o : Option Cell). is_some (hit_place (placed_doc body) (name.Doc key) o)) e in
+    -- with what the guard says of the cell that is there
+    by : (o : Option Cell) (may : Bool) → get c at ≡ o → may_stand at cell ≡ may → Places c at cell new done.hit
+    by None true e s =
+        let is : hit_place cell at (get c at) ≡ Some (Some cell) = rw (e, s) refl in
+        let hits = m.hit ∙ ap is_some is in
         record {
-          absent = hits ∙ sym (ap (λ (o : Option Cell). not (is_some o)) e);
-          made = on_true done.hit _ (λ _. m.made ∙ ap (λ (o : Option Cell). put_under c (name.Doc key) (hit_place (placed_doc body) (name.Doc key) o)) e);
+          free = hits ∙ sym (λ i. is_none (e i) && s i);
+          made = on_true done.hit _ (λ _. m.made ∙ ap (put_under c at) is);
           missed = λ f. clash hits f;
         }
-    by (Some there) e =
-        let hits = m.hit ∙ ap (λ (o : Option Cell). is_some (hit_place (placed_doc body) (name.Doc key) o)) e in
+    by None false e s =
+        let is : hit_place cell at (get c at) ≡ None = rw (e, s) refl in
+        let misses = m.hit ∙ ap is_some is in
         record {
-          absent = hits ∙ sym (ap (λ (o : Option Cell). not (is_some o)) e);
-          made = on_true done.hit _ (λ t. clash t hits);
-          missed = λ _. m.made ∙ ap (λ (o : Option Cell). put_under c (name.Doc key) (hit_place (placed_doc body) (name.Doc key) o)) e;
+          free = misses ∙ sym (λ i. is_none (e i) && s i);
+          made = on_true done.hit _ (λ t. clash t misses);
+          missed = λ _. m.made ∙ ap (put_under c at) is;
+        }
+    by (Some there) may e s =
+        let is : hit_place cell at (get c at) ≡ None = rw e refl in
+        let misses = m.hit ∙ ap is_some is in
+        record {
+          free = misses ∙ sym (ap (λ (o : Option Cell). is_none o && may_stand at cell) e);
+          made = on_true done.hit _ (λ t. clash t misses);
+          missed = λ _. m.made ∙ ap (put_under c at) is;
         }

@@ -1,5 +1,5 @@
 -- What holds between two statements, kept by each.
-use Rattle.std.proofs.Common.{◌≡◌, ℕ, Bool, true, false, not, ◌&&◌, ◌||◌, List, [], ◌∷◌, ◌++◌, Option, Some, None, is_some, IsTrue, Err, arith, refl, sym, ap, ◌∙◌, subst}
+use Rattle.std.proofs.Common.{◌≡◌, ℕ, Bool, true, false, not, ◌&&◌, ◌||◌, List, [], ◌∷◌, ◌++◌, Option, Some, None, is_some, IsTrue, Err, arith, refl, sym, ap, ◌∙◌, subst, Ok}
 use Rattle.std.specs.FinMap.{get, empty}
 use Rattle.std.specs.List.{list_all}
 use Rattle.std.specs.Option.{option_and_then}
@@ -117,51 +117,61 @@ place_calm c key body calm = by (is_some (hit (edit.Place (cell.Doc (new_doc bod
 
 -- ---- what each statement keeps
 
+true_false : {b : Bool} {A : Type 0} → b ≡ true → b ≡ false → A
+true_false p q = absurd (clash p q)
+  where
+    clash : {b : Bool} → b ≡ true → b ≡ false → ⊥
+    clash p q = cc
+
 module _ {S : Type 0} (store : Ghosts S) (old new : Session S) (h : IsBetween store old) where
   -- before anything waits there is no Run
   pub no_run_yet : old.begun ≡ false → new.runs.items ≡ old.runs.items → RunsGoOn (store.trail new.store) new.runs.items (store.calls new.store)
   no_run_yet unbegun runs = subst (λ (rs : List Run). RunsGoOn (store.trail new.store) rs (store.calls new.store)) (sym (runs ∙ (h.unbegun unbegun).1)) tt
 
-  pub placing_stands : old.begun ≡ false → new.begun ≡ old.begun → new.batch ≡ old.batch → new.runs.items ≡ old.runs.items → IsCalm (store.content new.store) → IsBetween store new
+  pub placing_stands : old.begun ≡ false → new.begun ≡ old.begun → new.batch ≡ old.batch → new.runs.items ≡ old.runs.items
+      → (IsTrue new.documents_alone → IsCalm (store.content new.store)) → IsBetween store new
   placing_stands unbegun begun batch runs calm =
       let none = h.unbegun unbegun in
       record {
-        may_run = subst (MayRun (store.content new.store)) (sym (batch ∙ none.0)) (nothing_waits (store.content new.store) calm);
+        may_run = λ alone. subst (MayRun (store.content new.store)) (sym (batch ∙ none.0)) (nothing_waits (store.content new.store) (calm alone));
+        none_run = λ e. runs ∙ none.1;
         runs = no_run_yet unbegun runs;
         unbegun = λ e. (batch ∙ none.0, runs ∙ none.1);
       }
 
   pub reading_runs : IsTrue store.tells → OnlyReads store old.store new.store → CallsGoOn store old.store new.store → new.runs.items ≡ old.runs.items
       → RunsGoOn (store.trail new.store) new.runs.items (store.calls new.store)
-  reading_runs told reads on runs =
-      subst (λ (rs : List Run). RunsGoOn (store.trail new.store) rs (store.calls new.store)) (sym runs) (runs_only_read store old.store new.store old.runs.items reads on told h.may_run.calm.sound h.runs)
+  reading_runs told reads on runs = by old.documents_alone refl
+    where
+      goal : List Run → Type 0
+      goal rs = RunsGoOn (store.trail new.store) rs (store.calls new.store)
+
+      by : (alone : Bool) → old.documents_alone ≡ alone → goal new.runs.items
+      by false e = subst goal (sym (runs ∙ h.none_run e)) tt
+      by true e = subst goal (sym runs) (runs_only_read store old.store new.store old.runs.items reads on told (h.may_run e).calm.sound h.runs)
 
   pub adding_stands : (txn : Waiting) → IsTrue store.tells → OnlyReads store old.store new.store → CallsGoOn store old.store new.store
-      → new.runs.items ≡ old.runs.items → new.batch ≡ old.batch ++ txn ∷ [] → new.begun ≡ true
+      → new.runs.items ≡ old.runs.items → new.documents_alone ≡ old.documents_alone → new.batch ≡ old.batch ++ txn ∷ [] → new.begun ≡ true
       → waits old.batch txn.id ≡ false → has_record (store.content old.store) txn.id ≡ false → list_all (λ (op : Op). has_document (store.content old.store) op.key) txn.ops ≡ true
       → IsBetween store new
-  adding_stands txn told reads on runs batch begun none fresh docs = record {
-    may_run = subst (MayRun (store.content new.store)) (sym batch) (subst (λ (c : Content). MayRun c (old.batch ++ txn ∷ [])) (sym reads.same) (one_more_waits (store.content old.store) old.batch txn h.may_run none fresh docs));
+  adding_stands txn told reads on runs alone batch begun none fresh docs = record {
+    may_run = λ e. subst (MayRun (store.content new.store)) (sym batch) (subst (λ (c : Content). MayRun c (old.batch ++ txn ∷ [])) (sym reads.same) (one_more_waits (store.content old.store) old.batch txn (h.may_run (sym alone ∙ e)) none fresh docs));
+    none_run = λ e. runs ∙ h.none_run (sym alone ∙ e);
     runs = reading_runs told reads on runs;
-    unbegun = λ e. absurd (true_false begun e);
+    unbegun = λ e. true_false begun e;
   }
-    where
-      true_false : {b : Bool} → b ≡ true → b ≡ false → ⊥
-      true_false p q = cc
 
   -- nothing but reads
   pub showing_stands : IsTrue store.tells → OnlyReads store old.store new.store → CallsGoOn store old.store new.store
-      → new.runs.items ≡ old.runs.items → new.batch ≡ old.batch → new.begun ≡ true → IsBetween store new
-  showing_stands told reads on runs batch begun = record {
-    may_run = subst (MayRun (store.content new.store)) (sym batch) (subst (λ (c : Content). MayRun c old.batch) (sym reads.same) h.may_run);
+      → new.runs.items ≡ old.runs.items → new.documents_alone ≡ old.documents_alone → new.batch ≡ old.batch → new.begun ≡ true → IsBetween store new
+  showing_stands told reads on runs alone batch begun = record {
+    may_run = λ e. subst (MayRun (store.content new.store)) (sym batch) (subst (λ (c : Content). MayRun c old.batch) (sym reads.same) (h.may_run (sym alone ∙ e)));
+    none_run = λ e. runs ∙ h.none_run (sym alone ∙ e);
     runs = reading_runs told reads on runs;
-    unbegun = λ e. absurd (true_false begun e);
+    unbegun = λ e. true_false begun e;
   }
-    where
-      true_false : {b : Bool} → b ≡ true → b ≡ false → ⊥
-      true_false p q = cc
 
--- ---- calls that were refused
+-- ---- calls that were refused, or made none
 
 -- no call was made
 pub calls_none : {S : Type 0} (store : Ghosts S) (s : S) → (IsTrue store.tells → store.trail s (store.calls s) ≡ store.content s) → CallsGoOn store s s
@@ -174,25 +184,32 @@ calls_none store s present = record {
 -- a refusal after calls that only read leaves the Runs
 pub refused_reading : {S T E : Type 0} (store : Ghosts S) (old new : Session S) (why : E) → Stands store old
     → (IsTrue store.tells → OnlyReads store old.store new.store) → CallsGoOn store old.store new.store
-    → new.runs.items ≡ old.runs.items → new.was_empty ≡ old.was_empty → IsKept {T = T} store old new (Err why)
-refused_reading store old new why stands reads on runs was = record {
+    → new.runs.items ≡ old.runs.items → IsKept {T = T} store old new (Err why)
+refused_reading store old new why stands reads on runs = record {
   stands = tt;
-  runs = λ told empty. reading_runs store old new (stands told empty) told (reads told) on runs;
-  none_run = λ e. runs;
-  was_empty = was;
+  runs = λ told. reading_runs store old new (stands told) told (reads told) on runs;
+  calls = on;
+}
+
+-- calls that only read leave a statement's session standing
+pub kept_reading : {S T E : Type 0} (store : Ghosts S) (old new : Session S) (answer : T) → Stands store old
+    → (IsTrue store.tells → OnlyReads store old.store new.store) → CallsGoOn store old.store new.store
+    → new.runs.items ≡ old.runs.items → new.documents_alone ≡ old.documents_alone → new.batch ≡ old.batch → new.begun ≡ true
+    → IsKept {E = E} store old new (Ok answer)
+kept_reading store old new answer stands reads on runs alone batch begun = record {
+  stands = λ told. showing_stands store old new (stands told) told (reads told) on runs alone batch begun;
+  runs = λ told. reading_runs store old new (stands told) told (reads told) on runs;
   calls = on;
 }
 
 -- a call that does nothing is refused
 pub refused_idly : {S T E : Type 0} (store : Ghosts S) (old new : Session S) (why : E) → Stands store old
     → (IsTrue store.tells → store.trail old.store (store.calls old.store) ≡ store.content old.store)
-    → new.store ≡ old.store → new.runs.items ≡ old.runs.items → new.was_empty ≡ old.was_empty → IsKept {T = T} store old new (Err why)
-refused_idly {S} {T} {E} store old new why stands present same runs was = record {
+    → new.store ≡ old.store → new.runs.items ≡ old.runs.items → IsKept {T = T} store old new (Err why)
+refused_idly {S} {T} {E} store old new why stands present same runs = record {
   stands = tt;
-  runs = λ told empty.
+  runs = λ told.
       subst (λ (s : S). RunsGoOn (store.trail s) new.runs.items (store.calls s)) (sym same)
-      (subst (λ (rs : List Run). RunsGoOn (store.trail old.store) rs (store.calls old.store)) (sym runs) (stands told empty).runs);
-  none_run = λ e. runs;
-  was_empty = was;
+      (subst (λ (rs : List Run). RunsGoOn (store.trail old.store) rs (store.calls old.store)) (sym runs) (stands told).runs);
   calls = subst (λ (s : S). CallsGoOn store old.store s) (sym same) (calls_none store old.store present);
 }

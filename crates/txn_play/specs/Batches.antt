@@ -88,9 +88,10 @@ pub record WorksOnBatch {S : Type 0} (store : Ghosts S) (old new : S) (before af
   pub others : KeepsAllBut (store.content old) (store.content new) waiting
   pub decided : list_all (λ entry. waits waiting entry.id) before ≡ true → list_all (λ entry. waits waiting entry.id) after ≡ true
 
--- its record, where it is there, has its operations, and no info
+-- its record, where it is there, has its operations and its info
 abbrev pub HasOwnOperations : Content → Waiting → Type 0
-HasOwnOperations c txn = (rec : Record) → record_at c txn.id ≡ Some rec → (rec.ops ≡ txn.ops) × (rec.info ≡ None)
+HasOwnOperations c txn =
+    (rec : Record) → record_at c txn.id ≡ Some rec → (rec.ops ≡ txn.ops) × (rec.info ≡ txn.info)
 
 -- each transaction of the batch has its record
 abbrev pub are_recorded : Content → List Waiting → Bool

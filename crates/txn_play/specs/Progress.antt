@@ -1,14 +1,18 @@
 -- How far a script has come, and what each statement does to that.
-use Rattle.std.specs.Prelude.{◌≡◌, ◌≢◌, ℕ, ◌&&◌, Bool, true, false, not, nat_lt, pos, List, [], ◌∷◌, ◌++◌, length, Option, None, is_none}
-use Rattle.std.specs.FinMap.{insert}
-use Rattle.std.specs.List.{list_all}
+use Rattle.std.specs.Prelude.{◌≡◌, ◌≢◌, ◌≤◌, ℕ, ◌&&◌, ◌||◌, Bool, true, false, not, nat_le, pos, List, [], ◌∷◌, ◌++◌, length, map, Option, Some, None, is_none, if◌then◌else◌}
+use Rattle.std.specs.FinMap.{entries, get, insert}
+use Rattle.std.specs.List.{flat_map, list_all}
 use Rattle.doc_value.specs.declared.value.Value.{Value}
 use Rattle.txn_key.specs.declared.id.TxnId.{TxnId}
 use Rattle.txn_record.specs.declared.op.Op.{Op}
 use Rattle.txn_record.specs.Orders.{after, legal}
-use Rattle.store_trait.specs.Contents.{Content, first_past}
+use Rattle.txn_record.specs.declared.entry.Entry.{Entry}
+use Rattle.store_trait.specs.Contents.{Content, first_past, named}
+use Rattle.store_trait.specs.Names.{may_stand}
 use Rattle.store_trait.specs.declared.cell.Cell.{Cell}
 use Rattle.store_trait.specs.declared.cell.Cell.TheVariants as cell
+use Rattle.store_trait.specs.declared.cell.Named.{Named}
+use Rattle.store_trait.specs.declared.name.Name.{Name}
 use Rattle.store_trait.specs.declared.name.Name.TheVariants as name
 use Rattle.store_laws.specs.Meaning.{meaning}
 use Rattle.store_laws.specs.Soundness.{IsSound}
@@ -17,28 +21,35 @@ use Rattle.txn_runner.specs.Built.{is_built}
 use Rattle.txn_runner.specs.Numbers.{Uses}
 use Rattle.txn_runner.specs.Store.{has_document, has_record}
 use Rattle.txn_runner.specs.declared.waiting.Waiting.{Waiting}
+use Rattle.txn_script.specs.Statements.{is_default}
 use Rattle.txn_script.specs.declared.statement.Statement.{Statement}
 use Rattle.txn_script.specs.declared.statement.Statement.TheVariants as statement
 use Rattle.txn_play.specs.Batches.{waits, Every, StandsIn, record_states}
+use Rattle.txn_play.specs.Remains.{Holding}
 use Rattle.txn_play.specs.declared.answer.Answer.{Answer}
-use Rattle.txn_play.specs.declared.answer.Answer.TheVariants.{Nothing, States, Documents}
+use Rattle.txn_play.specs.declared.answer.Answer.TheVariants as answer
 use Rattle.txn_play.specs.declared.answer.RecordState.{RecordState}
+use Rattle.txn_play.specs.declared.objection.Objection.{Objection}
+use Rattle.txn_play.specs.declared.objection.Objection.TheVariants as objection
 use Rattle.txn_play.specs.declared.run.Run.{Run}
 
 -- How far a script has come: what the store holds, how many calls on it were counted, the transactions
--- that wait, whether a statement other than `doc` stood already, whether the store had no cell as the
--- call began, and the Runs.
+-- that wait, whether a statement stood that places nothing, whether documents alone were placed, over a
+-- store that had no cell as the call began, and the Runs.
 pub record Progress : Type 0 where
   pub content : Content
   pub calls : ℕ
   pub waiting : List Waiting
   pub begun : Bool
-  pub was_empty : Bool
+  pub documents_alone : Bool
   pub runs : List Run
 
 -- whether a store that holds this has no cell
 abbrev pub has_no_cell : Content → Bool
 has_no_cell content = is_none (first_past None content)
+
+abbrev pub holding_at : Progress → Holding
+holding_at p = record { content = p.content; calls = p.calls; runs = p.runs }
 
 -- as a call begins
 abbrev pub opening : Content → ℕ → Progress
@@ -47,33 +58,86 @@ opening content calls = record {
   calls = calls;
   waiting = [];
   begun = false;
-  was_empty = has_no_cell content;
+  documents_alone = has_no_cell content;
   runs = [];
 }
 
--- a document as a `doc` line places it
-abbrev pub placed_doc : Value → Cell
-placed_doc body = cell.Doc (record { body = body; revno = pos 0; queue = []; remove = None })
+-- ---- what a statement meets where it stands
 
 -- how many transactions may wait
 abbrev pub most_waiting : ℕ
 most_waiting = 10000
 
--- A transaction may wait that has no info and one operation, which only asks or updates, on a document
--- that is there; its id has no record and doesn't wait, and fewer than 10,000 wait.
-abbrev pub may_wait : Progress → TxnId → List Op → Option Value → Bool
-may_wait p id ops info =
-    nat_lt (length p.waiting) most_waiting && not (waits p.waiting id) && is_none info && is_built ops
-    && not (has_record p.content id) && list_all (λ op. has_document p.content op.key) ops
+abbrev pub is_nothing : {A : Type 0} → List A → Bool
+is_nothing [] = true
+is_nothing (_ ∷ _) = false
 
--- Which statements are built. A `doc` line stands before every other statement and names a key that
--- has no document. A batch is run, and documents are shown, over a store that had no cell as the call
--- began.
-abbrev pub is_allowed : Progress → Statement → Bool
-is_allowed p (statement.Doc key body) = not p.begun && not (has_document p.content key)
-is_allowed p (statement.Submit id ops info) = may_wait p id ops info
-is_allowed p statement.Go = p.was_empty
-is_allowed p statement.Show = p.was_empty
+-- A batch is run, and documents are shown, where documents alone were placed.
+abbrev pub unless_alone : Progress → Option Objection
+unless_alone p = if p.documents_alone then None else Some objection.NotBuilt
+
+-- A cell is placed before every statement that places nothing, under a name that has none. (One of another
+-- kind than its name is no line's: see `read_line`.)
+abbrev pub against_placing : Progress → Name → Cell → Option Objection
+against_placing p at placed =
+    if p.begun then Some objection.PlacedTooLate
+    else (if is_none (get p.content at) && may_stand at placed then None
+    else Some objection.PlacedTwice)
+
+-- A transaction is settled that has one operation, which only asks or updates, on a document that is there.
+abbrev pub may_settle : Content → List Op → Bool
+may_settle content ops = is_built ops && list_all (λ op. has_document content op.key) ops
+
+-- A transaction may wait where fewer than 10,000 do, and no other of its id does or has a record.
+abbrev pub against_waiting : Progress → TxnId → List Op → Option Objection
+against_waiting p id ops =
+    if nat_le most_waiting (length p.waiting) then Some objection.TooManyWaiting
+    else (if waits p.waiting id || has_record p.content id then Some objection.IdExists
+    else (if may_settle p.content ops then None else Some objection.NotBuilt))
+
+-- a document as a `doc` line places it
+abbrev pub placed_doc : Value → Cell
+placed_doc body = cell.Doc (record { body = body; revno = pos 0; queue = []; remove = None })
+
+-- the first objection to a statement where nothing waits that it lets run; none says that it is done
+abbrev pub against : Progress → Statement → Option Objection
+against p (statement.Doc key body) = against_placing p (name.Doc key) (placed_doc body)
+against p (statement.Place at placed) = against_placing p at placed
+against p (statement.Submit id ops info) = against_waiting p id ops
+against p (statement.Go plan) = if is_default plan then unless_alone p else Some objection.NotBuilt
+against p (statement.Resume id) = Some objection.NotBuilt
+against p statement.Prune = Some objection.NotBuilt
+against p statement.Purge = Some objection.NotBuilt
+against p statement.Audit = Some objection.NotBuilt
+against p statement.Show = unless_alone p
+against p statement.Export = None
+against p statement.Order = None
+
+-- whether a statement first lets a batch run that waits: each does but `txn`, `go` and what isn't built
+abbrev pub lets_run : Statement → Bool
+lets_run (statement.Doc key body) = true
+lets_run (statement.Place at placed) = true
+lets_run (statement.Submit id ops info) = false
+lets_run (statement.Go plan) = false
+lets_run (statement.Resume id) = false
+lets_run statement.Prune = false
+lets_run statement.Purge = false
+lets_run statement.Audit = false
+lets_run statement.Show = true
+lets_run statement.Export = true
+lets_run statement.Order = true
+
+-- what stands against running a batch that waits
+abbrev pub objection_at_end : Progress → Option Objection
+objection_at_end p = if is_nothing p.waiting then None else unless_alone p
+
+-- The first objection to a statement. Where it lets a batch run that waits, only that this may not run: the
+-- statement is looked at once it has.
+abbrev pub objection_to : Progress → Statement → Option Objection
+objection_to p s =
+    if lets_run s && not (is_nothing p.waiting) then objection_at_end p else against p s
+
+-- ---- what a statement does
 
 -- A batch was run over the one content, and left the other. The Run's base is what the store meant, and
 -- the order is legal and leads to what the store means now. Each transaction of the batch is applied or
@@ -93,57 +157,71 @@ pub record RanBatch (old new : Content) (waiting : List Waiting) (run : Run) (st
   pub turns : run.turns ≡ []
   pub are : states ≡ record_states new waiting
 
--- a batch was run, and its Run is kept behind those before it
-pub record HasRunBatch (old new : Content) (waiting : List Waiting) (before after : List Run)
-    (states : List RecordState) : Type 0 where
+-- A batch was run: its Run is kept behind those before it, and begins with what the store then held.
+pub record HasRunBatch (old new : Holding) (waiting : List Waiting) (states : List RecordState)
+    : Type 0 where
   pub run : Run
-  pub ran : RanBatch old new waiting run states
-  pub kept : after ≡ before ++ run ∷ []
+  pub ran : RanBatch old.content new.content waiting run states
+  pub kept : new.runs ≡ old.runs ++ run ∷ []
+  pub since : old.calls ≤ run.mark
+  pub made : run.mark ≤ new.calls
 
 -- the batch was run: nothing waits any more, there is one Run more, and the answer has the states
-pub record RunsBatch (p q : Progress) (answer : Answer) : Type 0 where
+pub record RunsBatch (p q : Progress) (said : Answer) : Type 0 where
   pub states : List RecordState
-  pub ran : HasRunBatch p.content q.content p.waiting p.runs q.runs states
-  pub answers : answer ≡ States states
+  pub ran : HasRunBatch (holding_at p) (holding_at q) p.waiting states
+  pub answers : said ≡ answer.States states
   pub none_waits : q.waiting ≡ []
   pub begun : q.begun ≡ true
-  pub was_empty : q.was_empty ≡ p.was_empty
+  pub alone : q.documents_alone ≡ p.documents_alone
 
--- What a statement does, and what it answers. How many calls it takes isn't said. Documents are shown
--- where nothing waits: a batch that does has run before.
+-- the cells of a content, in the order of names
+abbrev pub cells_of : Content → List Named
+cells_of content = map named (entries content)
+
+-- the decisions of all Runs, in order
+abbrev pub decided_in : List Run → List Entry
+decided_in runs = flat_map (λ run. run.order) runs
+
+-- nothing waits, nothing changes, and this is answered
+pub record Tells (p q : Progress) (said expected : Answer) : Type 0 where
+  pub none_waits : p.waiting ≡ []
+  pub stays : q ≡ record p { begun = true; calls = q.calls }
+  pub answers : said ≡ expected
+
+-- What a statement does, and what it answers, where nothing is against it. How many calls it takes isn't
+-- said. A batch that waits has run before what lets it.
 abbrev pub Performs : Statement → Progress → Progress → Answer → Type 0
-Performs (statement.Doc key body) p q answer =
+Performs (statement.Doc key body) p q said =
     (q ≡ record p { content = insert p.content (name.Doc key) (placed_doc body); calls = q.calls })
-    × (answer ≡ Nothing)
-Performs (statement.Submit id ops info) p q answer =
-    (q ≡ record p { waiting = p.waiting ++ record { id = id; ops = ops } ∷ []; begun = true; calls = q.calls })
-    × (answer ≡ Nothing)
-Performs statement.Go p q answer = RunsBatch p q answer
-Performs statement.Show p q answer =
-    (p.waiting ≡ []) × (q ≡ record p { begun = true; calls = q.calls })
-    × (answer ≡ Documents (meaning p.content))
+    × (said ≡ answer.Nothing)
+Performs (statement.Place at placed) p q said =
+    (q ≡ record p { content = insert p.content at placed; documents_alone = false; calls = q.calls })
+    × (said ≡ answer.Nothing)
+Performs (statement.Submit id ops info) p q said =
+    (q ≡ record p { waiting = p.waiting ++ record { id = id; ops = ops; info = info } ∷ []; begun = true; calls = q.calls })
+    × (said ≡ answer.Nothing)
+Performs (statement.Go plan) p q said = RunsBatch p q said
+Performs (statement.Resume id) p q said = ⊥
+Performs statement.Prune p q said = ⊥
+Performs statement.Purge p q said = ⊥
+Performs statement.Audit p q said = ⊥
+Performs statement.Show p q said = Tells p q said (answer.Documents (meaning p.content))
+Performs statement.Export p q said = Tells p q said (answer.Cells (cells_of p.content))
+Performs statement.Order p q said = Tells p q said (answer.Order (decided_in p.runs))
 
--- a statement that is built was done
-pub record Does (s : Statement) (p q : Progress) (answer : Answer) : Type 0 where
-  pub allowed : is_allowed p s ≡ true
-  pub performs : Performs s p q answer
+-- nothing is against a statement, and it was done
+pub record Does (s : Statement) (p q : Progress) (said : Answer) : Type 0 where
+  pub allowed : objection_to p s ≡ None
+  pub performs : Performs s p q said
 
--- whether a statement first lets a batch run that waits
-abbrev pub lets_run : Statement → Bool
-lets_run (statement.Doc key body) = false
-lets_run (statement.Submit id ops info) = false
-lets_run statement.Go = false
-lets_run statement.Show = true
-
--- whether a statement runs the batch
+-- whether a statement runs the batch itself
 abbrev pub runs_batch : Statement → Bool
-runs_batch (statement.Doc key body) = false
-runs_batch (statement.Submit id ops info) = false
-runs_batch statement.Go = true
-runs_batch statement.Show = false
+runs_batch (statement.Go plan) = true
+runs_batch _ = false
 
 -- a batch that waited was run by itself
-pub record RunsItself (p q : Progress) (answer : Answer) : Type 0 where
-  pub allowed : p.was_empty ≡ true
+pub record RunsItself (p q : Progress) (said : Answer) : Type 0 where
+  pub allowed : p.documents_alone ≡ true
   pub waits : p.waiting ≢ []
-  pub runs : RunsBatch p q answer
+  pub runs : RunsBatch p q said

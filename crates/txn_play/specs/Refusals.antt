@@ -1,7 +1,9 @@
 -- Why a statement is refused.
-use Rattle.std.specs.Prelude.{◌≤◌, IfErr, IsErrOf, IsTrue, Result, length, ℕ}
+use Rattle.std.specs.Prelude.{◌≡◌, ◌≤◌, ◌⊎◌, Err, IsErrOf, OnErr, Result}
+use Rattle.store_trait.specs.Calls.{Rose}
 use Rattle.store_trait.specs.Contents.{Content}
 use Rattle.store_trait.specs.Edits.{nonce_limit}
+use Rattle.store_trait.specs.Stores.{CallsGoOn}
 use Rattle.store_trait.specs.declared.store.Store.{Ghosts}
 use Rattle.store_trait.specs.declared.store.StoreError.{StoreError}
 use Rattle.store_trait.specs.declared.store.StoreError.TheVariants as store_error
@@ -29,7 +31,7 @@ refusal_of_step (step.Clash id at) = refusal.Broken (step.Clash id at)
 
 -- the refusals that running a batch may end with
 abbrev pub IsOfRun : Refusal → Type 0
-IsOfRun refusal.NotBuilt = ⊥
+IsOfRun (refusal.Objected _) = ⊥
 IsOfRun _ = Unit {0}
 
 -- neither a nonce nor a number was wanting
@@ -61,3 +63,11 @@ HasCause store old new (refusal.Broken (step.Clash id at)) = LastShows store old
 HasCause store old new (refusal.Broken _) = ⊥
 HasCause store old new (refusal.Repeated id) = LastShows store old new (ShowsRepeated id)
 HasCause store old new _ = Unit {0}
+
+-- What a few calls on a store keep: they go on, and are refused only where the store failed or memory was
+-- wanting.
+pub record CallsAlone {S T : Type 0} (store : Ghosts S) (old new : S) (result : Result T Refusal)
+    : Type 0 where
+  pub calls : CallsGoOn store old new
+  pub fault : IsErrOf result refusal.Store → Rose (store.faults old) (store.faults new)
+  pub other : OnErr result ((result ≡ Err refusal.Store) ⊎ (result ≡ Err refusal.OutOfMemory))

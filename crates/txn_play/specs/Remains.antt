@@ -13,9 +13,10 @@ use Rattle.txn_play.specs.declared.refusal.Refusal.{Refusal}
 use Rattle.txn_play.specs.declared.refusal.Refusal.TheVariants as refusal
 use Rattle.txn_play.specs.declared.run.Run.{Run}
 
--- what a store holds, and the Runs that were made over it
+-- what a store holds, how many calls on it were counted, and the Runs that were made over it
 pub record Holding : Type 0 where
   pub content : Content
+  pub calls : ℕ
   pub runs : List Run
 
 -- the store holds what it held, and the Runs are those that there were
@@ -51,7 +52,7 @@ LeavesUnfinished c waiting _ = IsUnfinished c waiting
 -- What a refusal leaves: all as it was, unless a batch was on its way, and unfinished. Memory alone may be
 -- wanting behind one that was finished.
 abbrev pub HasLeft : Bool → List Waiting → (ℕ → Content) → Holding → Holding → Refusal → Type 0
-HasLeft may_run waiting trail old new refusal.NotBuilt = Stays old new
+HasLeft may_run waiting trail old new (refusal.Objected _) = Stays old new
 HasLeft may_run waiting trail old new refusal.OutOfMemory =
     Stays old new ⊎ ((may_run ≡ true) × HasBegun waiting trail old new)
 HasLeft may_run waiting trail old new _ =

@@ -1,14 +1,15 @@
 -- A script as it is played: what holds between two statements, and what each call for one keeps.
-use Rattle.std.specs.Prelude.{◌≡◌, false, [], length, Result, OnOk, IsTrue}
+use Rattle.std.specs.Prelude.{◌≡◌, Bool, false, [], length, Option, Some, Result, OnOk, IsTrue}
 use Rattle.store_trait.specs.Calls.{Rose}
 use Rattle.store_trait.specs.Stores.{CallsGoOn}
 use Rattle.store_trait.specs.declared.store.Store.{Ghosts}
 use Rattle.txn_runner.specs.Numbers.{Suffices}
 use Rattle.txn_play.specs.Batches.{MayRun}
-use Rattle.txn_play.specs.Remains.{Holding}
-use Rattle.txn_play.specs.Progress.{Progress}
+use Rattle.txn_play.specs.Remains.{HasLeft, Holding}
+use Rattle.txn_play.specs.Progress.{Progress, holding_at}
 use Rattle.txn_play.specs.Refusals.{HasCause, HasReason, IsUnspent}
 use Rattle.txn_play.specs.Runs.{RunsGoOn}
+use Rattle.txn_play.specs.declared.objection.Objection.{Objection}
 use Rattle.txn_play.specs.declared.refusal.Refusal.{Refusal}
 use Rattle.txn_play.specs.declared.refusal.Refusal.TheVariants as refusal
 use Rattle.txn_play.specs.declared.session.Session.{Session}
@@ -20,23 +21,24 @@ at store session = record {
   calls = store.calls session.store;
   waiting = session.batch;
   begun = session.begun;
-  was_empty = session.was_empty;
+  documents_alone = session.documents_alone;
   runs = session.runs.items;
 }
 
 abbrev pub holding : {S : Type 0} → Ghosts S → Session S → Holding
-holding store session = record { content = store.content session.store; runs = session.runs.items }
+holding store session = holding_at (at store session)
 
--- The batch may run, and each Run goes on up to the last call. Documents are placed before anything
--- waits and before any Run.
+-- Where documents alone were placed the batch may run; else there is no Run. Each Run goes on up to the last
+-- call. Cells are placed before anything waits and before any Run.
 pub record IsBetween {S : Type 0} (store : Ghosts S) (session : Session S) : Type 0 where
-  pub may_run : MayRun (store.content session.store) session.batch
+  pub may_run : IsTrue session.documents_alone → MayRun (store.content session.store) session.batch
+  pub none_run : session.documents_alone ≡ false → session.runs.items ≡ []
   pub runs : RunsGoOn (store.trail session.store) session.runs.items (store.calls session.store)
   pub unbegun : session.begun ≡ false → (session.batch ≡ []) × (session.runs.items ≡ [])
 
--- a session stands between two statements, as far as its store tells; over one that had cells no batch runs
+-- a session stands between two statements, as far as its store tells
 abbrev pub Stands : {S : Type 0} → Ghosts S → Session S → Type 0
-Stands store session = IsTrue store.tells → IsTrue session.was_empty → IsBetween store session
+Stands store session = IsTrue store.tells → IsBetween store session
 
 -- a session as a call begins: nothing stood, nothing waits, and there is no Run
 pub record IsNew {S : Type 0} (session : Session S) : Type 0 where
@@ -49,16 +51,14 @@ pub record IsNew {S : Type 0} (session : Session S) : Type 0 where
 pub record IsKept {S T E : Type 0} (store : Ghosts S) (old new : Session S) (result : Result T E)
     : Type 0 where
   pub stands : OnOk result (Stands store new)
-  pub runs : IsTrue store.tells → IsTrue old.was_empty
+  pub runs : IsTrue store.tells
       → RunsGoOn (store.trail new.store) new.runs.items (store.calls new.store)
-  pub none_run : old.was_empty ≡ false → new.runs.items ≡ old.runs.items
-  pub was_empty : new.was_empty ≡ old.was_empty
   pub calls : CallsGoOn store old.store new.store
 
 -- a batch that waits finds nonces and numbers enough
 abbrev pub HasEnough : {S : Type 0} → Ghosts S → Session S → Type 0
 HasEnough store session =
-    IsTrue session.was_empty → Suffices (store.content session.store) (length session.batch)
+    IsTrue session.documents_alone → Suffices (store.content session.store) (length session.batch)
 
 -- Why a call for a statement was refused: the store failed; over a store that tells, why nonces or numbers
 -- are used up, and that they aren't where there were enough; over any store, by what it answered.
@@ -67,3 +67,16 @@ pub record IsCaused {S : Type 0} (store : Ghosts S) (old new : Session S) (why :
   pub reason : IsTrue store.tells → HasReason (store.content new.store) why
   pub enough : IsTrue store.tells → HasEnough store old → IsUnspent why
   pub cause : HasCause store old.store new.store why
+
+-- a refusal by an objection is by that one
+abbrev pub IsAgainst : Option Objection → Refusal → Type 0
+IsAgainst against (refusal.Objected why) = against ≡ Some why
+IsAgainst against _ = Unit {0}
+
+-- What the refusal of a call leaves, over a store that tells, and its cause: a batch may be on its way where
+-- the call runs one.
+pub record IsRefused {S : Type 0} (store : Ghosts S) (may_run : Bool) (old new : Session S) (why : Refusal)
+    : Type 0 where
+  pub left : IsTrue store.tells → HasLeft may_run old.batch (store.trail new.store)
+      (holding store old) (holding store new) why
+  pub caused : IsCaused store old new why

@@ -1,95 +1,93 @@
-//! What `doc` and `txn` statements ask of the store, before they are let in.
+//! What `doc`, `cell` and `txn` statements ask of the store.
 
-ghost use Rattle.std.specs.Prelude.{◌≡◌, true, false, ◌&&◌, not, IsTrue, IfOk, IsErrOf, OnErr, Err, is_some, ◌⊎◌};
+ghost use Rattle.std.specs.Prelude.{◌≡◌, true, false, ◌&&◌, IsTrue, IfOk, OnErr, None, Some, is_some, is_none, if◌then◌else◌};
 ghost use Rattle.std.specs.Bool.{OnTrue};
 ghost use Rattle.std.specs.FinMap.{get, insert};
-ghost use Rattle.std.specs.List.{list_all};
-ghost use Rattle.store_trait.specs.Calls.{Rose};
-ghost use Rattle.store_trait.specs.Stores.{CallsGoOn};
-ghost use Rattle.store_trait.specs.declared.name.Name.TheVariants.{Doc};
-ghost use Rattle.txn_play.specs.Progress.{placed_doc, has_no_cell};
-ghost use Rattle.txn_runner.specs.Calm.{IsCalm};
-ghost use Rattle.txn_runner.specs.Built.{is_built};
+ghost use Rattle.store_trait.specs.Names.{may_stand};
+ghost use Rattle.txn_play.specs.Progress.{has_no_cell, may_settle, placed_doc};
+ghost use Rattle.txn_play.specs.Refusals.{CallsAlone};
 ghost use Rattle.txn_runner.specs.Running.{OnlyReads};
-ghost use Rattle.txn_runner.specs.Store.{has_document, has_record};
+ghost use Rattle.txn_runner.specs.Store.{has_record};
 
+use crate::objection::Objection;
 use crate::refusal::Refusal;
 use doc_value::Value;
 use sqlite_items::Items;
 use std::alloc::Global;
 use store_trait::{Cell, DocCell, Edit, Name, Store};
-use txn_key::{Key, TxnId};
+use txn_key::TxnId;
 use txn_record::Ops;
-use txn_runner::only;
+use txn_runner::{is_built, only};
 
 /// Whether the store has no cell.
 pub fn is_empty<S: Store>(alloc: Global, store: &mut S) -> Result<bool, Refusal>
     ensures answer { IsTrue S.tells → IfOk result (λ answer.
         answer ≡ has_no_cell (S.content store.old)) }
     ensures same { IsTrue S.tells → S.content store.new ≡ S.content store.old }
-    ensures calls { CallsGoOn S.Store store.old store.new }
-    ensures fault { IsErrOf result Refusal.Store → Rose (S.faults store.old) (S.faults store.new) }
-    ensures other { OnErr result ((result ≡ Err Refusal.Store) ⊎
-        (result ≡ Err Refusal.OutOfMemory)) }
+    ensures kept { CallsAlone S.Store store.old store.new result }
 {
     let first = store.next(alloc, None)?;
     Ok(first.is_none())
 }
 
-/// Places a document at revision number 0, where its key has none; answers whether it did.
-pub fn place_document<S: Store>(
-    alloc: Global,
-    store: &mut S,
-    key: Key,
-    body: Value,
-) -> Result<bool, Refusal>
-    ensures absent { IsTrue S.tells → IfOk result (λ placed.
-        placed ≡ not (has_document (S.content store.old) key)) }
-    ensures made { IsTrue S.tells → IfOk result
-        (λ placed. OnTrue placed (S.content store.new ≡ insert (S.content store.old) (Doc key)
-        (placed_doc body))) }
-    ensures missed { IsTrue S.tells → IfOk result (λ placed. placed ≡ false →
-        S.content store.new ≡ S.content store.old) }
-    ensures left { IsTrue S.tells → OnErr result (S.content store.new ≡ S.content store.old) }
-    ensures calm { IsTrue S.tells → IsCalm (S.content store.old) → IsCalm (S.content store.new) }
-    ensures calls { CallsGoOn S.Store store.old store.new }
-    ensures fault { IsErrOf result Refusal.Store → Rose (S.faults store.old) (S.faults store.new) }
-    ensures other { OnErr result ((result ≡ Err Refusal.Store) ⊎
-        (result ≡ Err Refusal.OutOfMemory)) }
+/// A document as a `doc` line places it.
+pub fn placed_doc(alloc: Global, body: Value) -> Cell
+    ensures { result ≡ placed_doc body }
 {
-    let name = Name::Doc(key);
-    let cell = Cell::Doc(DocCell {
+    Cell::Doc(DocCell {
         body,
         revno: 0,
         queue: Items::new(alloc),
         remove: None,
-    });
-    let edited = store.edit(alloc, &name, &Edit::Place { cell })?;
+    })
+}
+
+/// Places a cell where its name has none; answers whether it did.
+pub fn place<S: Store>(
+    alloc: Global,
+    store: &mut S,
+    name: &Name,
+    cell: Cell,
+) -> Result<bool, Refusal>
+    ensures free { IsTrue S.tells → IfOk result (λ placed.
+        placed ≡ (is_none (get (S.content store.old) name.now) && may_stand name.now cell)) }
+    ensures made { IsTrue S.tells → IfOk result (λ placed. OnTrue placed
+        (S.content store.new ≡ insert (S.content store.old) name.now cell)) }
+    ensures missed { IsTrue S.tells → IfOk result (λ placed. placed ≡ false →
+        S.content store.new ≡ S.content store.old) }
+    ensures left { IsTrue S.tells → OnErr result (S.content store.new ≡ S.content store.old) }
+    ensures kept { CallsAlone S.Store store.old store.new result }
+{
+    let edited = store.edit(alloc, name, &Edit::Place { cell })?;
     Ok(edited.hit)
 }
 
-/// Whether a transaction may wait: its id has no record, and the documents of its keys are there.
-pub fn may_wait<S: Store>(
+/// What stands against a transaction in the store: its id has a record, or it can't be settled yet.
+pub fn against_record<S: Store>(
     alloc: Global,
     store: &mut S,
     id: TxnId,
     ops: &Ops,
-) -> Result<bool, Refusal>
-    requires built { is_built ops.now ≡ true }
-    ensures answer { IsTrue S.tells → IfOk result (λ may.
-        may ≡ (not (has_record (S.content store.old) id)
-        && list_all (λ op. has_document (S.content store.old) op.key) ops.now)) }
+) -> Result<Option<Objection>, Refusal>
+    ensures answer { IsTrue S.tells → IfOk result (λ against.
+        against ≡ (if has_record (S.content store.old) id then Some Objection.IdExists
+        else (if may_settle (S.content store.old) ops.now then None else Some Objection.NotBuilt))) }
+    ensures built { IfOk result (λ against. against ≡ None → is_built ops.now ≡ true) }
     ensures reads { IsTrue S.tells → OnlyReads S.Store store.old store.new }
-    ensures calls { CallsGoOn S.Store store.old store.new }
-    ensures fault { IsErrOf result Refusal.Store → Rose (S.faults store.old) (S.faults store.new) }
-    ensures other { OnErr result ((result ≡ Err Refusal.Store) ⊎
-        (result ≡ Err Refusal.OutOfMemory)) }
+    ensures kept { CallsAlone S.Store store.old store.new result }
 {
-    let name = Name::Doc(only(ops).key.copy(alloc)?);
     if is_there(alloc, store, &Name::Record(id))? {
-        return Ok(false);
+        return Ok(Some(Objection::IdExists));
     }
-    is_there(alloc, store, &name)
+    if !is_built(ops) {
+        return Ok(Some(Objection::NotBuilt));
+    }
+    let name = Name::Doc(only(ops).key.copy(alloc)?);
+    if is_there(alloc, store, &name)? {
+        Ok(None)
+    } else {
+        Ok(Some(Objection::NotBuilt))
+    }
 }
 
 /// Whether a cell stands under a name.
@@ -97,10 +95,7 @@ fn is_there<S: Store>(alloc: Global, store: &mut S, name: &Name) -> Result<bool,
     ensures answer { IsTrue S.tells → IfOk result (λ there.
         there ≡ is_some (get (S.content store.old) name.now)) }
     ensures reads { IsTrue S.tells → OnlyReads S.Store store.old store.new }
-    ensures calls { CallsGoOn S.Store store.old store.new }
-    ensures fault { IsErrOf result Refusal.Store → Rose (S.faults store.old) (S.faults store.new) }
-    ensures other { OnErr result ((result ≡ Err Refusal.Store) ⊎
-        (result ≡ Err Refusal.OutOfMemory)) }
+    ensures kept { CallsAlone S.Store store.old store.new result }
 {
     let found = store.read(alloc, name)?;
     Ok(found.is_some())

@@ -1,8 +1,9 @@
 //! What a statement comes to, as a value: it is printed at the edge.
 
 use sqlite_items::Items;
+use store_trait::Named;
 use txn_key::{Docs, TxnId};
-use txn_record::State;
+use txn_record::{Entry, State};
 
 /// A transaction with the state of its record.
 #[derive(Clone, Copy, Debug, PartialEq, Eq)]
@@ -11,11 +12,13 @@ pub struct RecordState {
     pub state: State,
 }
 
-/// What a statement comes to: nothing to print, the transactions of a batch with their states, or the
-/// documents.
+/// What a statement comes to: nothing to print, the transactions of a batch with their states, the
+/// documents, the cells in the order of names, or the decisions of all Runs.
 #[derive(Drop)]
 pub enum Answer {
     Nothing,
     States(Items<RecordState>),
     Documents(Docs),
+    Cells(Items<Named>),
+    Order(Items<Entry>),
 }

@@ -10,7 +10,6 @@ use std::alloc::Global;
 use std::collections::BTreeSet;
 use std::marker::Model;
 use txn_key::TxnId;
-use txn_record::Ops;
 use txn_runner::Waiting;
 
 /// The most transactions that may wait.
@@ -81,14 +80,14 @@ impl Batch {
     }
 
     /// Adds a transaction at the end.
-    pub fn push(&mut self, id: TxnId, ops: Ops) -> Result<(), OutOfMemory>
-        requires built { is_built ops ≡ true }
-        ensures ok { OnOk result (self.new ≡ self.old ++ record { id = id; ops = ops } ∷ []) }
+    pub fn push(&mut self, txn: Waiting) -> Result<(), OutOfMemory>
+        requires built { is_built txn.ops ≡ true }
+        ensures ok { OnOk result (self.new ≡ self.old ++ txn ∷ []) }
         ensures err { OnErr result (self.new ≡ self.old) }
     {
         self.list.reserve(1)?;
-        self.ids.insert(id.0)?;
-        match self.list.push(Waiting { id, ops }) {
+        self.ids.insert(txn.id.0)?;
+        match self.list.push(txn) {
             Ok(()) => Ok(()),
             Err(_) => unreachable!(),
         }

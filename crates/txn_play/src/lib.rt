@@ -1,14 +1,16 @@
-//! A script as it is played over a store, statement by statement: documents are placed, transactions wait,
-//! a batch is run, documents are shown.
+//! A script as it is played over a store, statement by statement: cells are placed, transactions wait, a batch
+//! is run, and documents, cells and decisions are shown.
 //!
-//! A statement does what `Performs` says of it, or is refused and leaves what `HasLeft` says; each keeps what
-//! holds between two statements (`Session::perform#done`, `#left`, `#kept`), and a refusal has its cause
-//! (`#refused`, `#caused`). What comes of a statement is a value: lines and their numbers are the program's.
+//! A statement does what `Performs` says of it, or is refused by the first objection to it, or leaves what
+//! `HasLeft` says with its cause; each keeps what holds between two statements (`Session::perform#done`,
+//! `#against`, `#refused`, `#kept`). What comes of a statement is a value: lines are the program's.
 #![tactic(auto)]
 
 mod admission;
 mod answer;
 mod batch;
+mod listing;
+mod objection;
 mod refusal;
 mod run;
 mod session;
@@ -17,6 +19,7 @@ mod settling;
 pub use admission::is_empty;
 pub use answer::{Answer, RecordState};
 pub use batch::Batch;
+pub use objection::Objection;
 pub use refusal::Refusal;
 pub use run::Run;
-pub use session::Session;
+pub use session::{Session, lets_run};

@@ -6,6 +6,7 @@ ghost use Rattle.txn_play.specs.Refusals.{refusal_of_step, HasReason, IsOfRun, I
 ghost use Rattle.txn_runner.specs.Causes.{IsOfStore};
 ghost use Rattle.txn_runner.specs.Settling.{MayStop};
 
+use crate::objection::Objection;
 use std::alloc::AllocError;
 use store_trait::StoreError;
 use txn_key::TxnId;
@@ -14,8 +15,8 @@ use txn_runner::StepError;
 /// Why a statement was refused.
 #[derive(Drop)]
 pub enum Refusal {
-    /// The statement is none that is built, where it stands.
-    NotBuilt,
+    /// Something stands against the statement.
+    Objected(Objection),
     Store,
     OutOfMemory,
     /// Nonces or revision numbers are used up.
@@ -34,6 +35,17 @@ impl From<AllocError> for Refusal {
 
     fn from(_: AllocError) -> Refusal {
         Refusal::OutOfMemory
+    }
+}
+
+impl From<Objection> for Refusal {
+    ghost use Rattle.std.specs.Prelude.{◌≡◌};
+    ghost use Rattle.txn_play.specs.declared.refusal.Refusal.TheVariants.{Objected};
+
+    ghost from_gives = { λ why refusal. refusal ≡ Objected why };
+
+    fn from(why: Objection) -> Refusal {
+        Refusal::Objected(why)
     }
 }
 

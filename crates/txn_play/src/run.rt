@@ -1,6 +1,7 @@
 //! What one batch made.
 
-ghost use Rattle.std.specs.Prelude.{◌≡◌, IfOk};
+ghost use Rattle.std.specs.Prelude.{◌≡◌, ◌++◌, IfOk, OnOk};
+ghost use Rattle.txn_play.specs.Progress.{decided_in};
 
 use doc_value::OutOfMemory;
 use sqlite_items::Items;
@@ -39,8 +40,26 @@ fn copy_order(alloc: Global, order: &[Entry]) -> Result<Items<Entry>, OutOfMemor
     ensures { IfOk result (λ copies. copies ≡ order.now) }
 {
     let mut copies = Items::new(alloc);
+    push_copies(alloc, &mut copies, order)?;
+    Ok(copies)
+}
+
+fn push_copies(alloc: Global, copies: &mut Items<Entry>, order: &[Entry]) -> Result<(), OutOfMemory>
+    ensures { OnOk result (copies.new ≡ copies.old ++ order.now) }
+{
     for entry in order {
         copies.push(entry.copy(alloc)?)?;
     }
-    Ok(copies)
+    Ok(())
+}
+
+/// The decisions of all Runs, in order.
+pub(crate) fn decided_in(alloc: Global, runs: &[Run]) -> Result<Items<Entry>, OutOfMemory>
+    ensures { IfOk result (λ order. order ≡ decided_in runs.now) }
+{
+    let mut order = Items::new(alloc);
+    for run in runs {
+        push_copies(alloc, &mut order, run.order.as_slice())?;
+    }
+    Ok(order)
 }

@@ -1,77 +1,107 @@
 //! A script as it is played: what each statement does to the store, and what it answers.
 
-ghost use Rattle.std.specs.Prelude.{◌≡◌, [], true, false, Err, IsTrue, IfOk, OnOk, IfErr, IsErrOf};
-ghost use Rattle.txn_play.specs.Remains.{HasLeft};
-ghost use Rattle.txn_play.specs.Progress.{is_allowed, lets_run, runs_batch, Does, RunsBatch};
-ghost use Rattle.txn_play.specs.Sessions.{IsCaused, IsKept, Stands, at, holding};
+ghost use Rattle.std.specs.Prelude.{◌≡◌, [], true, IsTrue, IfOk, OnOk, IfErr};
+ghost use Rattle.txn_play.specs.Attending.{HasAttended};
+ghost use Rattle.txn_play.specs.Progress.{lets_run, objection_to, runs_batch, unless_alone, Does, RunsBatch};
+ghost use Rattle.txn_play.specs.Sessions.{IsAgainst, IsKept, IsRefused, Stands, at};
 ghost use Rattle.txn_script.specs.declared.statement.Statement.TheVariants as statement;
 
-use crate::admission::{may_wait, place_document};
+use crate::admission::{against_record, place, placed_doc};
 use crate::answer::Answer;
 use crate::batch::Batch;
+use crate::listing::list_cells;
+use crate::objection::Objection;
 use crate::refusal::{Refusal, refusal_of};
-use crate::run::Run;
+use crate::run::{Run, decided_in};
 use crate::settling::run_batch;
 use doc_value::Value;
 use std::alloc::Global;
-use store_trait::Store;
+use store_trait::{Cell, Name, Store};
 use txn_key::{Key, TxnId};
 use txn_record::Ops;
-use txn_runner::{is_built, list_documents};
-use txn_script::Statement;
+use txn_runner::{Waiting, list_documents};
+use txn_script::{GoPlan, Statement};
 
-/// How far a script has come. `was_empty` says whether the store had no cell as the call began: batches
-/// are run, and documents shown, over such a store alone.
+/// How far a script has come.
 pub struct Session<S> {
     pub store: S,
     pub runs: Vec<Run>,
     pub batch: Batch,
-    /// A statement other than `doc` stood.
+    /// A statement stood that places nothing.
     pub begun: bool,
-    pub was_empty: bool,
+    /// Documents alone were placed, over a store that had no cell as the call began: batches are run, and
+    /// documents shown, over such a store alone.
+    pub documents_alone: bool,
+}
+
+/// Whether a statement first lets a batch run that waits. What isn't built lets none run.
+pub fn lets_run(statement: &Statement) -> bool
+    ensures { result ≡ lets_run statement.now }
+{
+    match statement {
+        Statement::Doc { .. } | Statement::Place { .. } => true,
+        Statement::Show | Statement::Export | Statement::Order => true,
+        Statement::Submit { .. } | Statement::Go(_) => false,
+        Statement::Resume(_) | Statement::Prune | Statement::Purge | Statement::Audit => false,
+    }
 }
 
 impl<S: Store> Session<S> {
     /// Does a statement, and answers what it comes to. A batch that the statement lets run has run before.
     pub fn perform(&mut self, alloc: Global, statement: Statement) -> Result<Answer, Refusal>
         requires stands { Stands S.Store self.old }
-        requires cleared { lets_run statement ≡ true → IsTrue self.old.was_empty →
-            self.old.batch ≡ [] }
+        requires cleared { lets_run statement ≡ true → self.old.batch ≡ [] }
         ensures done { IsTrue S.tells → IfOk result
             (Does statement (at S.Store self.old) (at S.Store self.new)) }
-        ensures left { IsTrue S.tells → IfErr result (HasLeft (runs_batch statement) self.old.batch
-            (S.trail self.new.store) (holding S.Store self.old) (holding S.Store self.new)) }
-        ensures refused { IsTrue S.tells → result ≡ Err Refusal.NotBuilt →
-            is_allowed (at S.Store self.old) statement ≡ false }
-        ensures caused { IfErr result (IsCaused S.Store self.old self.new) }
+        ensures against { IsTrue S.tells → IfErr result
+            (IsAgainst (objection_to (at S.Store self.old) statement)) }
+        ensures refused { IfErr result
+            (IsRefused S.Store (runs_batch statement) self.old self.new) }
         ensures kept { IsKept S.Store self.old self.new result }
     {
         match statement {
             Statement::Doc { key, body } => self.place_document(alloc, key, body),
+            Statement::Place { name, cell } => self.place_cell(alloc, name, cell),
             Statement::Submit { id, ops, info } => self.add_to_batch(alloc, id, ops, info),
-            Statement::Go => self.go(alloc),
+            Statement::Go(plan) => self.go_as(alloc, &plan),
             Statement::Show => self.show(alloc),
+            Statement::Export => self.export(alloc),
+            Statement::Order => self.order(alloc),
+            Statement::Resume(_) | Statement::Prune | Statement::Purge | Statement::Audit => {
+                Err(Refusal::Objected(Objection::NotBuilt))
+            }
         }
     }
 
     fn place_document(&mut self, alloc: Global, key: Key, body: Value) -> Result<Answer, Refusal>
         requires stands { Stands S.Store self.old }
-        ensures done { IsTrue S.tells → IfOk result
-            (Does (statement.Doc key body) (at S.Store self.old) (at S.Store self.new)) }
-        ensures left { IsTrue S.tells → IfErr result (HasLeft false self.old.batch
-            (S.trail self.new.store) (holding S.Store self.old) (holding S.Store self.new)) }
-        ensures refused { IsTrue S.tells → result ≡ Err Refusal.NotBuilt →
-            is_allowed (at S.Store self.old) (statement.Doc key body) ≡ false }
-        ensures caused { IfErr result (IsCaused S.Store self.old self.new) }
-        ensures kept { IsKept S.Store self.old self.new result }
+        requires cleared { self.old.batch ≡ [] }
+        ensures { HasAttended S.Store (statement.Doc key body) self.old self.new result }
     {
         if self.begun {
-            return Err(Refusal::NotBuilt);
+            return Err(Refusal::Objected(Objection::PlacedTooLate));
         }
-        if place_document(alloc, &mut self.store, key, body)? {
+        if place(alloc, &mut self.store, &Name::Doc(key), placed_doc(alloc, body))? {
             Ok(Answer::Nothing)
         } else {
-            Err(Refusal::NotBuilt)
+            Err(Refusal::Objected(Objection::PlacedTwice))
+        }
+    }
+
+    /// What a cell line places may be sound or not, so no batch is run behind it.
+    fn place_cell(&mut self, alloc: Global, name: Name, cell: Cell) -> Result<Answer, Refusal>
+        requires stands { Stands S.Store self.old }
+        requires cleared { self.old.batch ≡ [] }
+        ensures { HasAttended S.Store (statement.Place name cell) self.old self.new result }
+    {
+        if self.begun {
+            return Err(Refusal::Objected(Objection::PlacedTooLate));
+        }
+        if place(alloc, &mut self.store, &name, cell)? {
+            self.documents_alone = false;
+            Ok(Answer::Nothing)
+        } else {
+            Err(Refusal::Objected(Objection::PlacedTwice))
         }
     }
 
@@ -83,24 +113,32 @@ impl<S: Store> Session<S> {
         info: Option<Value>,
     ) -> Result<Answer, Refusal>
         requires stands { Stands S.Store self.old }
-        ensures done { IsTrue S.tells → IfOk result
-            (Does (statement.Submit id ops info) (at S.Store self.old) (at S.Store self.new)) }
-        ensures left { IsTrue S.tells → IfErr result (HasLeft false self.old.batch
-            (S.trail self.new.store) (holding S.Store self.old) (holding S.Store self.new)) }
-        ensures refused { IsTrue S.tells → result ≡ Err Refusal.NotBuilt →
-            is_allowed (at S.Store self.old) (statement.Submit id ops info) ≡ false }
-        ensures caused { IfErr result (IsCaused S.Store self.old self.new) }
-        ensures kept { IsKept S.Store self.old self.new result }
+        ensures { HasAttended S.Store (statement.Submit id ops info) self.old self.new result }
     {
-        if self.batch.is_full() || self.batch.has(id) || info.is_some() || !is_built(&ops) {
-            return Err(Refusal::NotBuilt);
+        if self.batch.is_full() {
+            return Err(Refusal::Objected(Objection::TooManyWaiting));
         }
-        if !may_wait(alloc, &mut self.store, id, &ops)? {
-            return Err(Refusal::NotBuilt);
+        if self.batch.has(id) {
+            return Err(Refusal::Objected(Objection::IdExists));
         }
-        self.batch.push(id, ops)?;
+        if let Some(why) = against_record(alloc, &mut self.store, id, &ops)? {
+            return Err(Refusal::Objected(why));
+        }
+        self.batch.push(Waiting { id, ops, info })?;
         self.begun = true;
         Ok(Answer::Nothing)
+    }
+
+    /// One runner alone is built.
+    fn go_as(&mut self, alloc: Global, plan: &GoPlan) -> Result<Answer, Refusal>
+        requires stands { Stands S.Store self.old }
+        ensures { HasAttended S.Store (statement.Go plan.now) self.old self.new result }
+    {
+        if plan.is_default() {
+            self.go(alloc)
+        } else {
+            Err(Refusal::Objected(Objection::NotBuilt))
+        }
     }
 
     /// Runs the batch, and answers how its records stand.
@@ -108,16 +146,14 @@ impl<S: Store> Session<S> {
         requires stands { Stands S.Store self.old }
         ensures done { IsTrue S.tells → IfOk result
             (RunsBatch (at S.Store self.old) (at S.Store self.new)) }
-        ensures allowed { OnOk result (self.old.was_empty ≡ true) }
+        ensures allowed { OnOk result (self.old.documents_alone ≡ true) }
         ensures cleared { OnOk result (self.new.batch ≡ []) }
-        ensures left { IsTrue S.tells → IfErr result (HasLeft true self.old.batch
-            (S.trail self.new.store) (holding S.Store self.old) (holding S.Store self.new)) }
-        ensures refused { result ≡ Err Refusal.NotBuilt → self.old.was_empty ≡ false }
-        ensures caused { IfErr result (IsCaused S.Store self.old self.new) }
+        ensures against { IfErr result (IsAgainst (unless_alone (at S.Store self.old))) }
+        ensures refused { IfErr result (IsRefused S.Store true self.old self.new) }
         ensures kept { IsKept S.Store self.old self.new result }
     {
-        if !self.was_empty {
-            return Err(Refusal::NotBuilt);
+        if !self.documents_alone {
+            return Err(Refusal::Objected(Objection::NotBuilt));
         }
         let states = run_batch(
             alloc,
@@ -132,18 +168,11 @@ impl<S: Store> Session<S> {
 
     fn show(&mut self, alloc: Global) -> Result<Answer, Refusal>
         requires stands { Stands S.Store self.old }
-        requires cleared { IsTrue self.old.was_empty → self.old.batch ≡ [] }
-        ensures done { IsTrue S.tells → IfOk result
-            (Does statement.Show (at S.Store self.old) (at S.Store self.new)) }
-        ensures left { IsTrue S.tells → IfErr result (HasLeft false self.old.batch
-            (S.trail self.new.store) (holding S.Store self.old) (holding S.Store self.new)) }
-        ensures refused { IsTrue S.tells → result ≡ Err Refusal.NotBuilt →
-            is_allowed (at S.Store self.old) statement.Show ≡ false }
-        ensures caused { IfErr result (IsCaused S.Store self.old self.new) }
-        ensures kept { IsKept S.Store self.old self.new result }
+        requires cleared { self.old.batch ≡ [] }
+        ensures { HasAttended S.Store statement.Show self.old self.new result }
     {
-        if !self.was_empty {
-            return Err(Refusal::NotBuilt);
+        if !self.documents_alone {
+            return Err(Refusal::Objected(Objection::NotBuilt));
         }
         match list_documents(alloc, &mut self.store) {
             Ok(docs) => {
@@ -152,5 +181,25 @@ impl<S: Store> Session<S> {
             }
             Err(error) => Err(refusal_of(error)),
         }
+    }
+
+    fn export(&mut self, alloc: Global) -> Result<Answer, Refusal>
+        requires stands { Stands S.Store self.old }
+        requires cleared { self.old.batch ≡ [] }
+        ensures { HasAttended S.Store statement.Export self.old self.new result }
+    {
+        let cells = list_cells(alloc, &mut self.store)?;
+        self.begun = true;
+        Ok(Answer::Cells(cells))
+    }
+
+    fn order(&mut self, alloc: Global) -> Result<Answer, Refusal>
+        requires stands { Stands S.Store self.old }
+        requires cleared { self.old.batch ≡ [] }
+        ensures { HasAttended S.Store statement.Order self.old self.new result }
+    {
+        let order = decided_in(alloc, self.runs.as_slice())?;
+        self.begun = true;
+        Ok(Answer::Order(order))
     }
 }

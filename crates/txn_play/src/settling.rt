@@ -37,12 +37,14 @@ pub fn run_batch<S: Store>(
     ensures runs { IsTrue S.tells → RunsGoOn (S.trail store.new) runs.new.items
         (S.calls store.new) }
     ensures done { IsTrue S.tells → IfOk result
-        (λ states. HasRunBatch (S.content store.old) (S.content store.new) batch.now
-        runs.old.items runs.new.items states) }
+        (λ states. HasRunBatch
+        (record { content = S.content store.old; calls = S.calls store.old; runs = runs.old.items })
+        (record { content = S.content store.new; calls = S.calls store.new; runs = runs.new.items })
+        batch.now states) }
     ensures calm { IsTrue S.tells → OnOk result (IsCalm (S.content store.new)) }
     ensures left { IsTrue S.tells → IfErr result (HasLeft true batch.now (S.trail store.new)
-        (record { content = S.content store.old; runs = runs.old.items })
-        (record { content = S.content store.new; runs = runs.new.items })) }
+        (record { content = S.content store.old; calls = S.calls store.old; runs = runs.old.items })
+        (record { content = S.content store.new; calls = S.calls store.new; runs = runs.new.items })) }
     ensures reason { IsTrue S.tells → IfErr result (HasReason (S.content store.new)) }
     ensures enough { IsTrue S.tells → Suffices (S.content store.old) (length batch.now) →
         IfErr result IsUnspent }

@@ -1,7 +1,6 @@
 use Rattle.std.proofs.Common.{Ok, Some, None, refl, sym, ◌∙◌, arith}
 use Rattle.txn_io.specs.Unread.{unread}
 use Rattle.txn_runner.proofs.CallsMade.{calls_then}
-use Rattle.txn_play.proofs.Runs.{held_or_none}
 use Rattle.txn_play.specs.Sessions.{at}
 use Rattle.txn_cli.specs.Call.{held, start, taken}
 use Rattle.txn_cli.specs.Faults.{refusal_in_stop}
@@ -24,8 +23,8 @@ returns-then-not-is_run-clause-stopped g c = λ src told.
 pub returns-in-Err-clause-stopped : goal.returns-in-Err-clause-stopped
 returns-in-Err-clause-stopped g c = λ src told.
     begins_stopped (taken (g.I.Source.rest c.args.input.now) (g.I.Source.rest c.args.input.now)) (start g.S.Store c.args.session.now.store) (held g.S.Store c.is_empty.new.store c.args.session.now.runs.items) (writing g.O.Sink c.args.output.now c.args.output.now)
-    refl c.is_empty.ensures.calls.counted ((c.is_empty.ensures.calls.trail told).here ∙ c.is_empty.ensures.same told) (c.is_empty.ensures.same told) c.requires.begins.runs
-    c.at_line.result (look_fault c.in-Err.refusal c.at_line.result c.in-Err.ensures.other c.at_line.ensures)
+    refl c.is_empty.ensures.kept.calls.counted ((c.is_empty.ensures.kept.calls.trail told).here ∙ c.is_empty.ensures.same told) (c.is_empty.ensures.same told) c.requires.begins.runs
+    c.at_line.result (look_fault c.in-Err.refusal c.at_line.result c.in-Err.ensures.kept.other c.at_line.ensures)
 
 pub loop-done-init : goal.loop-done-init
 loop-done-init g c = rw c.new-lines.ensures (record {
@@ -34,14 +33,12 @@ loop-done-init g c = rw c.new-lines.ensures (record {
   unrefused = refl;
   output_later = omega arith;
   input_later = omega arith;
-  made = c.is_empty.ensures.calls;
-  was_empty = λ told. c.in-Ok.ensures.answer told;
-  none_run = λ e. c.requires.begins.runs;
-  stands = λ told was. begins_stands g.S.Store c.args.session.now (record { store = c.is_empty.new.store; runs = c.args.session.now.runs; batch = c.args.session.now.batch; begun = c.args.session.now.begun; was_empty = c.in-Ok.answer })
-      c.requires.begins (sym (c.in-Ok.ensures.answer told) ∙ was) (c.in-Ok.ensures.same told) refl refl refl;
-  come = λ src told. begins_come g.S.Store c.args.session.now (record { store = c.is_empty.new.store; runs = c.args.session.now.runs; batch = c.args.session.now.batch; begun = c.args.session.now.begun; was_empty = c.in-Ok.answer })
+  made = c.is_empty.ensures.kept.calls;
+  stands = λ told. begins_stands g.S.Store c.args.session.now (record { store = c.is_empty.new.store; runs = c.args.session.now.runs; batch = c.args.session.now.batch; begun = c.args.session.now.begun; documents_alone = c.in-Ok.answer })
+      c.requires.begins (λ alone. sym (c.in-Ok.ensures.answer told) ∙ alone) (c.in-Ok.ensures.same told) refl refl refl;
+  come = λ src told. begins_come g.S.Store c.args.session.now (record { store = c.is_empty.new.store; runs = c.args.session.now.runs; batch = c.args.session.now.batch; begun = c.args.session.now.begun; documents_alone = c.in-Ok.answer })
       c.requires.begins (g.I.Source.rest c.args.input.now) (record { taken = 0; left = g.I.Source.rest c.args.input.now }) (writing g.O.Sink c.args.output.now c.args.output.now) refl refl refl
-      c.is_empty.ensures.calls.counted (c.is_empty.ensures.calls.trail told).here (c.in-Ok.ensures.same told) (c.in-Ok.ensures.answer told) refl refl refl;
+      c.is_empty.ensures.kept.calls.counted (c.is_empty.ensures.kept.calls.trail told).here (c.in-Ok.ensures.same told) (c.in-Ok.ensures.answer told) refl refl refl;
 })
 
 -- ---- a line
@@ -55,16 +52,14 @@ loop-done-preserved g c =
       counted = omega (arith, more refl, it.counted);
       within = c.in-Ok-Some.ensures.within;
       unrefused = c.in-Ok-Some.ensures.standing.1;
-      output_later = omega (arith, it.output_later, played.output.later);
+      output_later = omega (arith, it.output_later, played.kept.output.later);
       input_later = omega (arith, it.input_later, c.in-Ok-Some.ensures.kept);
-      made = calls_then _ _ _ _ it.made played.kept.calls;
-      was_empty = λ told. played.kept.was_empty ∙ it.was_empty told;
-      none_run = λ e. played.kept.none_run (sym played.kept.was_empty ∙ e) ∙ it.none_run (sym played.kept.was_empty ∙ e);
-      stands = played.kept.stands;
+      made = calls_then _ _ _ _ it.made played.kept.session.calls;
+      stands = played.kept.session.stands;
       come = λ src told.
           comes_further g.S.Store (g.I.Source.rest c.args.input.now) (start g.S.Store c.args.session.now.store) c.loop-done.done (unread g.I.Source c.loop-done.lines c.loop-done.input) g.O.Sink.tells (g.O.Sink.written c.args.output.now)
           (g.S.Store.trail c.loop-done.session.store) c.in-Ok-Some.line.items c.loop-done.session c.play_line.new.session (unread g.I.Source c.next.new.self c.next.new.source) (g.O.Sink.written c.loop-done.output) (g.O.Sink.written c.play_line.new.output)
-          (played.kept.calls.trail told).before (played.kept.calls.trail told).here (it.come src told) (rw c.in-Ok-Some.field-0-is at (c.in-Ok-Some.ensures.done src)) (rw c.as_slice.ensures.value at (played.done told));
+          (played.kept.session.calls.trail told).before (played.kept.session.calls.trail told).here (it.come src told) (rw c.in-Ok-Some.field-0-is at (c.in-Ok-Some.ensures.done src)) (rw c.as_slice.ensures.value at (played.done told));
     }
 
 pub returns-in-Err-play_line-clause-stopped : goal.returns-in-Err-play_line-clause-stopped
@@ -75,16 +70,12 @@ returns-in-Err-play_line-clause-stopped g c = λ src told.
     let read = rw c.in-Ok-Some.field-0-is at (c.in-Ok-Some.ensures.done src) in
     stops_line g.S.Store (g.I.Source.rest c.args.input.now) (g.I.Source.rest c.next.new.source) (start g.S.Store c.args.session.now.store) c.loop-done.done (unread g.I.Source c.loop-done.lines c.loop-done.input) g.O.Sink.tells (g.O.Sink.written c.args.output.now)
     c.loop-done.session c.play_line.new.session (g.O.Sink.written c.loop-done.output) (g.O.Sink.written c.play_line.new.output) c.in-Ok-Some.line.items (g.S.Store.trail c.loop-done.session.store)
-    (played.kept.calls.trail told).before played.kept.calls.counted come
+    (played.kept.session.calls.trail told).before played.kept.session.calls.counted come
     (next_is _ (g.S.Store.trail c.loop-done.session.store) (start g.S.Store c.args.session.now.store) c.loop-done.done (at g.S.Store c.loop-done.session) come.answers _ (unread g.I.Source c.next.new.self c.next.new.source) (Some c.in-Ok-Some.line.items) come.at read)
     c.in-Err-play_line.stop c.at_line-in-Err-play_line.result c.at_line-in-Err-play_line.ensures
     (unspent_enough g.S.Store c.loop-done.session c.play_line.new.session (refusal_in_stop c.in-Err-play_line.stop) told
-    (λ was. suffices_at _ _ (g.S.Store.content c.args.session.now.store) (g.S.Store.calls c.args.session.now.store) (sym (it.was_empty told) ∙ was) _ _ _ come.at.plays (omega (arith, it.counted, it.within))) played.caused)
+    (suffices_at _ _ (g.S.Store.content c.args.session.now.store) (g.S.Store.calls c.args.session.now.store) _ _ _ come.at.plays (omega (arith, it.counted, it.within))) played.kept.caused)
     (rw c.as_slice.ensures.value at (played.stopped told))
-
-pub returns-in-Err-play_line-clause-runs : goal.returns-in-Err-play_line-clause-runs
-returns-in-Err-play_line-clause-runs g c = λ told.
-    held_or_none _ _ _ c.loop-done.session.was_empty (λ was. c.in-Err-play_line.ensures.kept.runs told was) (λ e. c.in-Err-play_line.ensures.kept.none_run e ∙ c.loop-done.invariant.none_run e)
 
 -- ---- the end of the input
 
@@ -95,7 +86,7 @@ returns-in-Ok-run_waiting-clause-played g c = λ src told.
     let read = rw c.in-Ok-None.field-0-is at (c.in-Ok-None.ensures.done src) in
     plays_out g.S.Store (g.I.Source.rest c.args.input.now) (g.I.Source.rest c.next.new.source) (start g.S.Store c.args.session.now.store) c.loop-done.done (unread g.I.Source c.loop-done.lines c.loop-done.input) (unread g.I.Source c.next.new.self c.next.new.source) g.O.Sink.tells (g.O.Sink.written c.args.output.now)
     c.loop-done.session c.run_waiting.new.session (g.O.Sink.written c.loop-done.output) (g.O.Sink.written c.run_waiting.new.output) (g.S.Store.trail c.loop-done.session.store)
-    (out.kept.calls.trail told).before out.kept.calls.counted (it.come src told) read (Ok c.in-Ok-run_waiting.field-0) (out.kept.calls.trail told).here (out.done told) out.cleared
+    (out.kept.session.calls.trail told).before out.kept.session.calls.counted (it.come src told) read (Ok c.in-Ok-run_waiting.field-0) (out.kept.session.calls.trail told).here (out.done told) out.cleared
 
 pub returns-in-Err-run_waiting-clause-stopped : goal.returns-in-Err-run_waiting-clause-stopped
 returns-in-Err-run_waiting-clause-stopped g c = λ src told.
@@ -105,11 +96,11 @@ returns-in-Err-run_waiting-clause-stopped g c = λ src told.
     let read = rw c.in-Ok-None.field-0-is at (c.in-Ok-None.ensures.done src) in
     stops_end g.S.Store (g.I.Source.rest c.args.input.now) (g.I.Source.rest c.next.new.source) (start g.S.Store c.args.session.now.store) c.loop-done.done (unread g.I.Source c.loop-done.lines c.loop-done.input) (unread g.I.Source c.next.new.self c.next.new.source) g.O.Sink.tells (g.O.Sink.written c.args.output.now)
     c.loop-done.session c.run_waiting.new.session (g.O.Sink.written c.loop-done.output) (g.O.Sink.written c.run_waiting.new.output) (g.S.Store.trail c.loop-done.session.store)
-    (out.kept.calls.trail told).before out.kept.calls.counted come read
+    (out.kept.session.calls.trail told).before out.kept.session.calls.counted come read
     c.in-Err-run_waiting.stop c.at_line-in-Err-run_waiting.result c.at_line-in-Err-run_waiting.ensures
     (unspent_enough g.S.Store c.loop-done.session c.run_waiting.new.session (refusal_in_stop c.in-Err-run_waiting.stop) told
-    (λ was. suffices_at _ _ (g.S.Store.content c.args.session.now.store) (g.S.Store.calls c.args.session.now.store) (sym (it.was_empty told) ∙ was) _ _ _ come.at.plays (omega (arith, it.counted, it.within))) out.caused)
-    out.refused (out.left told)
+    (suffices_at _ _ (g.S.Store.content c.args.session.now.store) (g.S.Store.calls c.args.session.now.store) _ _ _ come.at.plays (omega (arith, it.counted, it.within))) out.kept.caused)
+    out.against (out.left told)
 
 -- ---- a line isn't read
 

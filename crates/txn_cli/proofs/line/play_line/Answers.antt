@@ -1,7 +1,7 @@
 use Rattle.std.proofs.Common.{Ok, refl, ap, sym, ◌∙◌, arith}
 use Rattle.std.proofs.lemmas.Result.{err_from_is_err_and}
 use Rattle.txn_cli.specs.Output.{writing}
-use Rattle.txn_cli.proofs.LineSteps.{caused_since, done_line, enough_first, misread_line, skipped_line, stops_first, stops_then}
+use Rattle.txn_cli.proofs.LineSteps.{done_line, enough_first, kept_then, misread_line, skipped_line, stops_first, stops_then}
 use Rattle.txn_cli.proofs.line.play_line.Goals as goal
 
 pub returns-in-Ok-None-clause-done : goal.returns-in-Ok-None-clause-done
@@ -12,20 +12,19 @@ returns-in_ok-run_first-in-Ok-Some-clause-done g c = λ told.
     let first = c.in_ok-run_first-in-Ok-Some.ensures in
     let then = c.play_statement.ensures in
     let read = sym (c.in-Ok-Some.ensures.exact (λ e. cc)) ∙ ap Ok c.in-Ok-Some.field-0-is in
-    done_line g.S.Store _ c.in-Ok-Some.statement read c.args.session.now c.play_statement.new.session _ (record { session = c.run_first.new.session; written = g.O.Sink.written c.run_first.new.output }) (first.done told) first.kept.calls.counted then.kept.calls.counted
-    ((then.kept.calls.trail told).before _ (omega arith) ∙ (first.kept.calls.trail told).here) c.play_statement.result (then.done told)
+    done_line g.S.Store _ c.in-Ok-Some.statement read c.args.session.now c.play_statement.new.session _ (record { session = c.run_first.new.session; written = g.O.Sink.written c.run_first.new.output }) (first.done told) first.kept.session.calls.counted then.kept.session.calls.counted
+    ((then.kept.session.calls.trail told).before _ (omega arith) ∙ (first.kept.session.calls.trail told).here) c.play_statement.result (then.done told)
 
 pub returns-in_ok-run_first-in-Ok-Some-clause-stopped : goal.returns-in_ok-run_first-in-Ok-Some-clause-stopped
 returns-in_ok-run_first-in-Ok-Some-clause-stopped g c = λ told.
     let first = c.in_ok-run_first-in-Ok-Some.ensures in
     let then = c.play_statement.ensures in
     let read = sym (c.in-Ok-Some.ensures.exact (λ e. cc)) ∙ ap Ok c.in-Ok-Some.field-0-is in
-    stops_then g.S.Store _ c.in-Ok-Some.statement read c.args.session.now c.play_statement.new.session _ (record { session = c.run_first.new.session; written = g.O.Sink.written c.run_first.new.output }) (first.done told) first.kept.calls.counted then.kept.calls.counted
-    ((then.kept.calls.trail told).before _ (omega arith) ∙ (first.kept.calls.trail told).here) c.play_statement.result _ (λ h. h told) then.refused (then.left told)
+    stops_then g.S.Store _ c.in-Ok-Some.statement read c.args.session.now c.play_statement.new.session _ (record { session = c.run_first.new.session; written = g.O.Sink.written c.run_first.new.output }) (first.done told) first.kept.session.calls.counted then.kept.session.calls.counted
+    ((then.kept.session.calls.trail told).before _ (omega arith) ∙ (first.kept.session.calls.trail told).here) c.play_statement.result (then.against told) (then.left told)
 
-pub returns-in_ok-run_first-in-Ok-Some-clause-caused : goal.returns-in_ok-run_first-in-Ok-Some-clause-caused
-returns-in_ok-run_first-in-Ok-Some-clause-caused g c =
+pub returns-in_ok-run_first-in-Ok-Some-clause-kept : goal.returns-in_ok-run_first-in-Ok-Some-clause-kept
+returns-in_ok-run_first-in-Ok-Some-clause-kept g c =
     let first = c.in_ok-run_first-in-Ok-Some.ensures in
-    let then = c.play_statement.ensures in
-    caused_since g.S.Store c.args.session.now c.run_first.new.session c.play_statement.new.session c.play_statement.result first.kept.calls.counted first.kept.calls.later
-    (λ told. enough_first g.S.Store _ c.args.session.now c.run_first.new.session (first.done told).answer (first.done told).did) then.caused
+    kept_then g.S.Store c.args.session.now c.run_first.new.session c.play_statement.new.session _ _ _ c.play_statement.result first.kept.session.calls first.kept.output.later
+    (λ told. enough_first g.S.Store _ c.args.session.now c.run_first.new.session (first.done told).answer (first.done told).did) c.play_statement.ensures.kept

@@ -1,0 +1,33 @@
+//! The cells of a store, by one call for each and one more.
+
+ghost use Rattle.std.specs.Prelude.{◌≡◌, IsTrue, IfOk};
+ghost use Rattle.txn_play.specs.Progress.{cells_of};
+ghost use Rattle.txn_play.specs.Refusals.{CallsAlone};
+ghost use Rattle.txn_runner.specs.Running.{OnlyReads};
+
+use crate::refusal::Refusal;
+use sqlite_items::Items;
+use std::alloc::Global;
+use store_trait::{Named, Store};
+
+/// The cells, in the order of their names.
+pub fn list_cells<S: Store>(alloc: Global, store: &mut S) -> Result<Items<Named>, Refusal>
+    ensures listed { IsTrue S.tells → IfOk result (λ cells.
+        cells ≡ cells_of (S.content store.old)) }
+    ensures reads { IsTrue S.tells → OnlyReads S.Store store.old store.new }
+    ensures kept { CallsAlone S.Store store.old store.new result }
+{
+    let mut cells = Items::new(alloc);
+    let mut after = None;
+    for _ in 0..u64::MAX {
+        match store.next(alloc, after.as_ref())? {
+            Some(named) => {
+                after = Some(named.name.copy(alloc)?);
+                cells.push(named)?;
+            }
+            None => return Ok(cells),
+        }
+    }
+    // So many cells are more than memory holds.
+    Err(Refusal::OutOfMemory)
+}
