@@ -303,8 +303,16 @@ fn kind(statement: &Statement) -> &'static str {
         Statement::Doc { .. } => "doc",
         Statement::Submit { info: None, .. } => "submit",
         Statement::Submit { .. } => "submit with info",
-        Statement::Go => "go",
+        Statement::Place { .. } => "place",
+        Statement::Go(_) => "go",
+        Statement::Resume(Some(_)) => "resume",
+        Statement::Resume(None) => "resume all",
+        Statement::Prune => "prune",
+        Statement::Purge => "purge",
+        Statement::Audit => "audit",
         Statement::Show => "show",
+        Statement::Export => "export",
+        Statement::Order => "order",
     }
 }
 

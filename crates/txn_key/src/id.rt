@@ -76,7 +76,7 @@ impl Token {
 }
 
 /// Reads the 8 hexadecimal digits of a nonce, high digits first, in either case of letters.
-fn read_nonce(text: &[u8]) -> Option<u32>
+pub fn read_nonce(text: &[u8]) -> Option<u32>
     ensures { result ≡ nonce_of text.now }
 {
     if text.len() != 8 {

@@ -11,6 +11,6 @@ mod key;
 mod keys;
 
 pub use docs::{Doc, Docs, documents_rise};
-pub use id::{Token, TxnId, ids_are_ordered, tokens_read_back};
+pub use id::{Token, TxnId, ids_are_ordered, read_nonce, tokens_read_back};
 pub use key::{Key, keys_are_ordered};
 pub use keys::{distinct_keys, place_of};

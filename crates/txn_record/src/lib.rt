@@ -25,6 +25,7 @@ pub use laws::{
 };
 pub use op::{Assert, Change, Op};
 pub use ops::Ops;
-pub use record::{Record, copy_revnos};
+pub use print::{id_value, push_field};
+pub use record::{Record, copy_info, copy_revnos};
 pub use revnos::{Chained, chain, has_room};
 pub use state::State;

@@ -27,7 +27,7 @@ impl Op {
 }
 
 /// Adds a field of that name, unless there is none.
-fn push_field(
+pub fn push_field(
     alloc: Global,
     fields: &mut Fields,
     name: &str,
@@ -42,7 +42,8 @@ fn push_field(
     fields.push(Named { name, value })
 }
 
-fn id_value(alloc: Global, id: &DocId) -> Result<Value, OutOfMemory>
+/// The value that the id of a document prints as.
+pub fn id_value(alloc: Global, id: &DocId) -> Result<Value, OutOfMemory>
     ensures { IfOk result (λ value. value ≡ id_value id.now) }
 {
     match id {

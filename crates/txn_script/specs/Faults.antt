@@ -3,6 +3,8 @@ use Rattle.std.specs.Prelude.{ℕ, List, ◌++◌, codes}
 use Rattle.std.specs.Fmt.{decimal}
 use Rattle.doc_value.specs.declared.fault.ValueFault.{ValueFault}
 use Rattle.doc_value.specs.declared.fault.ValueFault.TheVariants as value
+use Rattle.cell_text.specs.declared.fault.CellFault.{CellFault}
+use Rattle.cell_text.specs.declared.fault.CellFault.TheVariants as cell
 use Rattle.txn_record.specs.declared.fault.OpFault.{OpFault}
 use Rattle.txn_record.specs.declared.fault.OpFault.TheVariants as op
 use Rattle.txn_record.specs.declared.fault.OpsFault.{OpsFault}
@@ -17,6 +19,11 @@ fault_of_value value.TooDeep = fault.TooDeep
 fault_of_value value.BadName = fault.BadName
 fault_of_value value.NotWhole = fault.NotWhole
 fault_of_value value.OutOfMemory = fault.OutOfMemory
+
+-- the fault of a line with a field `cell` whose value is no cell
+abbrev pub fault_of_cell : CellFault → ScriptFault
+fault_of_cell cell.Bad = fault.BadCell
+fault_of_cell cell.OutOfMemory = fault.OutOfMemory
 
 -- the fault of a line whose `ops` are no operations of a transaction
 abbrev pub fault_of_ops : OpsFault → ScriptFault
@@ -46,6 +53,8 @@ fault_text fault.NotJson = codes "not JSON"
 fault_text fault.TooDeep = codes "nested too deep"
 fault_text fault.BadName = codes "bad field name"
 fault_text fault.NotWhole = codes "number not whole"
+fault_text fault.BadStatement = codes "bad statement"
+fault_text fault.BadCell = codes "bad cell"
 fault_text fault.BadId = codes "bad id"
 fault_text fault.BadBody = codes "bad body"
 fault_text fault.BadInfo = codes "bad info"

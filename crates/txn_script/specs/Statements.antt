@@ -1,6 +1,7 @@
 -- What a line of a script states, or the fault by which it is refused.
-use Rattle.std.specs.Prelude.{ℕ, Bool, ◌||◌, ◌&&◌, ◌==◌, true, false, nat_eq, nat_lt, List, [], ◌∷◌, codes, Option, Some, None, Result, Ok, Err, if◌then◌else◌}
-use Rattle.std.specs.List.{starts_with, list_all}
+use Rattle.std.specs.Prelude.{ℕ, Bool, ◌||◌, ◌&&◌, ◌==◌, true, false, nat_eq, nat_lt, List, [], ◌∷◌, length, codes, Option, Some, None, Result, Ok, Err, if◌then◌else◌}
+use Rattle.std.specs.List.{starts_with, list_all, list_any}
+use Rattle.std.specs.Option.{option_map}
 use Rattle.std.specs.Str.{bytes_eq}
 use Rattle.doc_value.specs.Bodies.{body_in}
 use Rattle.doc_value.specs.Depth.{nesting}
@@ -17,9 +18,13 @@ use Rattle.txn_key.specs.declared.key.Key.{Key}
 use Rattle.txn_record.specs.Syntax.{ops_in}
 use Rattle.txn_record.specs.declared.fault.OpsFault.{OpsFault}
 use Rattle.txn_record.specs.declared.op.Op.{Op}
+use Rattle.store_trait.specs.declared.cell.Named.{Named as NamedCell}
+use Rattle.cell_text.specs.Syntax.{cell_in}
 use Rattle.txn_script.specs.Faults.{fault_of_value, fault_of_ops}
+use Rattle.txn_script.specs.Plans.{plan_in}
 use Rattle.txn_script.specs.declared.fault.ScriptFault.{ScriptFault}
-use Rattle.txn_script.specs.declared.fault.ScriptFault.TheVariants.{BadId, BadBody, BadInfo, NotBuilt}
+use Rattle.txn_script.specs.declared.fault.ScriptFault.TheVariants.{BadStatement, BadCell, BadId, BadBody, BadInfo, NotBuilt}
+use Rattle.txn_script.specs.declared.plan.GoPlan.{GoPlan}
 use Rattle.txn_script.specs.declared.statement.Statement.{Statement}
 use Rattle.txn_script.specs.declared.statement.Statement.TheVariants as statement
 
@@ -31,6 +36,18 @@ is_blank_byte byte = byte == 32 || byte == 9 || byte == 13
 -- a comment, or blanks, tabs and carriage returns alone
 abbrev pub is_skipped : List ℕ → Bool
 is_skipped line = starts_with nat_eq line (codes "#") || list_all is_blank_byte line
+
+-- ---- a value or else a fault
+
+abbrev pub or_fault : {A : Type 0} → ScriptFault → Option A → Result A ScriptFault
+or_fault why (Some read) = Ok read
+or_fault why None = Err why
+
+-- ---- a cell line
+
+abbrev pub placing : Option NamedCell → Result Statement ScriptFault
+placing (Some named) = Ok (statement.Place named.name named.cell)
+placing None = Err BadCell
 
 -- ---- {"doc":[COLLECTION,ID],"body":BODY}
 
@@ -72,15 +89,48 @@ submission_under None info ops = Err BadId
 abbrev pub submission_in : Value → Option Value → Value → Result Statement ScriptFault
 submission_in id info ops = submission_under (id_in (out-Value id)) info ops
 
--- ---- {"go":{}} and {"show":true}
+-- ---- {"go":PLAN}
 
-abbrev pub go_in : Value-F Value → Result Statement ScriptFault
-go_in (Value-F.Object []) = Ok statement.Go
-go_in _ = Err NotBuilt
+abbrev pub has_no_fields : Value-F Value → Bool
+has_no_fields (Value-F.Object fields) = length fields == 0
+has_no_fields _ = false
 
-abbrev pub show_in : Value-F Value → Result Statement ScriptFault
-show_in (Value-F.Bool true) = Ok statement.Show
-show_in _ = Err NotBuilt
+-- A plan that says anything is not built yet.
+abbrev pub go_with : Bool → Option GoPlan → Result Statement ScriptFault
+go_with plain (Some plan) = if plain then Ok (statement.Go plan) else Err NotBuilt
+go_with plain None = Err BadStatement
+
+abbrev pub go_in : Value → Result Statement ScriptFault
+go_in value = go_with (has_no_fields (out-Value value)) (plan_in value)
+
+-- ---- {"resume":ID} and {"resume":"all"}
+
+abbrev pub resumed_in : Value-F Value → Option (Option TxnId)
+resumed_in (Value-F.Text text) = if bytes_eq text (codes "all") then Some None
+    else option_map Some (id_of text)
+resumed_in _ = None
+
+abbrev pub resuming : Option (Option TxnId) → Result Statement ScriptFault
+resuming (Some id) = Ok (statement.Resume id)
+resuming None = Err BadId
+
+abbrev pub resume_in : Value → Result Statement ScriptFault
+resume_in value = resuming (resumed_in (out-Value value))
+
+-- ---- the statements that are a word with `true`
+
+abbrev pub word_in : List ℕ → Option Statement
+word_in name =
+    if bytes_eq name (codes "prune") then Some statement.Prune
+    else (if bytes_eq name (codes "purge") then Some statement.Purge
+    else (if bytes_eq name (codes "audit") then Some statement.Audit
+    else (if bytes_eq name (codes "show") then Some statement.Show
+    else (if bytes_eq name (codes "export") then Some statement.Export
+    else (if bytes_eq name (codes "order") then Some statement.Order else None)))))
+
+abbrev pub asked : List ℕ → Value-F Value → Result Statement ScriptFault
+asked name (Value-F.Bool true) = or_fault BadStatement (word_in name)
+asked name _ = Err BadStatement
 
 -- ---- the statement of an object with one, two or three fields; they stand in byte order of their names
 
@@ -89,8 +139,9 @@ is_named field name = bytes_eq field.name name
 
 abbrev pub statement_of_one : Named Value → Result Statement ScriptFault
 statement_of_one field =
-    if is_named field (codes "go") then go_in (out-Value field.value)
-    else (if is_named field (codes "show") then show_in (out-Value field.value) else Err NotBuilt)
+    if is_named field (codes "go") then go_in field.value
+    else (if is_named field (codes "resume") then resume_in field.value
+    else asked field.name (out-Value field.value))
 
 abbrev pub statement_of_two : Named Value → Named Value → Result Statement ScriptFault
 statement_of_two first second =
@@ -98,29 +149,33 @@ statement_of_two first second =
     then doc_in second.value first.value
     else (if is_named first (codes "ops") && is_named second (codes "txn")
     then submission_in second.value None first.value
-    else Err NotBuilt)
+    else Err BadStatement)
 
 abbrev pub statement_of_three : Named Value → Named Value → Named Value →
     Result Statement ScriptFault
 statement_of_three first second third =
     if is_named first (codes "info") && is_named second (codes "ops")
     && is_named third (codes "txn")
-    then submission_in third.value (Some first.value) second.value else Err NotBuilt
+    then submission_in third.value (Some first.value) second.value else Err BadStatement
 
 abbrev pub statement_of_fields : List (Named Value) → Result Statement ScriptFault
 statement_of_fields (field ∷ []) = statement_of_one field
 statement_of_fields (first ∷ second ∷ []) = statement_of_two first second
 statement_of_fields (first ∷ second ∷ third ∷ []) = statement_of_three first second third
-statement_of_fields _ = Err NotBuilt
+statement_of_fields _ = Err BadStatement
 
 -- ---- the statement of a value and of a line
 
-abbrev pub statement_of_value : Value-F Value → Result Statement ScriptFault
-statement_of_value (Value-F.Object fields) = statement_of_fields fields
-statement_of_value _ = Err NotBuilt
+abbrev pub is_cell_line : List (Named Value) → Bool
+is_cell_line fields = list_any (λ field. is_named field (codes "cell")) fields
+
+abbrev pub statement_of_value : Value → Value-F Value → Result Statement ScriptFault
+statement_of_value value (Value-F.Object fields) =
+    if is_cell_line fields then placing (cell_in value) else statement_of_fields fields
+statement_of_value value _ = Err BadStatement
 
 abbrev pub statement_in : Result Value ValueFault → Result Statement ScriptFault
-statement_in (Ok value) = statement_of_value (out-Value value)
+statement_in (Ok value) = statement_of_value value (out-Value value)
 statement_in (Err why) = Err (fault_of_value why)
 
 abbrev pub stated : Result Statement ScriptFault → Result (Option Statement) ScriptFault

@@ -2,6 +2,7 @@
 ghost use Rattle.std.specs.Prelude.{◌≡◌, IfOk};
 ghost use Rattle.txn_script.specs.Faults.{fault_text, op_text};
 
+use cell_text::CellFault;
 use doc_value::{OutOfMemory, Text, ValueFault};
 use std::alloc::{AllocError, Global};
 use txn_record::{OpFault, OpsFault};
@@ -15,7 +16,11 @@ pub enum ScriptFault {
     /// A field's name is empty or holds a NUL.
     BadName,
     NotWhole,
-    /// `txn` is no id of a transaction.
+    /// The value is none of the statements.
+    BadStatement,
+    /// It has a field `cell` and is no cell.
+    BadCell,
+    /// `txn` is no id of a transaction, or `resume` neither an id nor `"all"`.
     BadId,
     /// `doc` is no collection and id that an operation may name, or `body` no body of that document.
     BadBody,
@@ -27,7 +32,7 @@ pub enum ScriptFault {
     TooManyOperations,
     /// The first faulty operation and its first fault. Operations are counted from 0.
     Operation { number: u32, why: OpFault },
-    /// The value is of no form that is built so far.
+    /// The statement asks for what is not built yet.
     NotBuilt,
     OutOfMemory,
 }
@@ -43,6 +48,8 @@ impl ScriptFault {
             ScriptFault::TooDeep => Text::from_str(alloc, "nested too deep"),
             ScriptFault::BadName => Text::from_str(alloc, "bad field name"),
             ScriptFault::NotWhole => Text::from_str(alloc, "number not whole"),
+            ScriptFault::BadStatement => Text::from_str(alloc, "bad statement"),
+            ScriptFault::BadCell => Text::from_str(alloc, "bad cell"),
             ScriptFault::BadId => Text::from_str(alloc, "bad id"),
             ScriptFault::BadBody => Text::from_str(alloc, "bad body"),
             ScriptFault::BadInfo => Text::from_str(alloc, "bad info"),
@@ -88,6 +95,20 @@ impl From<AllocError> for ScriptFault {
 
     fn from(_: AllocError) -> ScriptFault {
         ScriptFault::OutOfMemory
+    }
+}
+
+impl From<CellFault> for ScriptFault {
+    ghost use Rattle.std.specs.Prelude.{◌≡◌};
+    ghost use Rattle.txn_script.specs.Faults.{fault_of_cell};
+
+    ghost from_gives = { λ why fault. fault ≡ fault_of_cell why };
+
+    fn from(why: CellFault) -> ScriptFault {
+        match why {
+            CellFault::Bad => ScriptFault::BadCell,
+            CellFault::OutOfMemory => ScriptFault::OutOfMemory,
+        }
     }
 }
 

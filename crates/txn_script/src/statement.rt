@@ -2,24 +2,33 @@ ghost use Rattle.std.specs.Prelude.{◌≡◌, ◌≢◌, IfOk, Err};
 ghost use Rattle.std.specs.List.{list_all};
 ghost use Rattle.std.specs.Option.{option_copied};
 ghost use Rattle.doc_value.specs.declared.value.Value.{out-Value};
-ghost use Rattle.txn_script.specs.Statements.{is_skipped, is_blank_byte, line_in, statement_of_value, statement_of_fields, is_named, submission_in, id_in, is_too_deep, doc_in, key_of, go_in, show_in};
+ghost use Rattle.txn_script.specs.Statements.{is_skipped, is_blank_byte, line_in, statement_of_value, statement_of_fields, statement_of_one, is_named, is_cell_line, placing, submission_in, id_in, is_too_deep, doc_in, key_of, go_in, has_no_fields, resume_in, asked, word_in};
+ghost use Rattle.cell_text.specs.Syntax.{cell_in};
 
 use crate::fault::ScriptFault;
+use crate::plan::GoPlan;
+use cell_text::read_cell_text;
 use doc_value::{BodyFault, Field, OutOfMemory, Value, read_body, read_value};
 use std::alloc::Global;
+use store_trait::{Cell, Name, Named};
 use txn_key::{Key, TxnId};
 use txn_record::Ops;
 
 /// The deepest nesting of lists and objects in what is noted with a transaction.
 const MAX_INFO_NESTING: u32 = 90;
 
-/// A statement of a script, of the forms built so far.
+/// A statement of a script.
 #[derive(Drop)]
 pub enum Statement {
     /// Places a document with this body.
     Doc {
         key: Key,
         body: Value,
+    },
+    /// Places a cell under its name.
+    Place {
+        name: Name,
+        cell: Cell,
     },
     /// Adds a transaction to the batch.
     Submit {
@@ -28,9 +37,21 @@ pub enum Statement {
         info: Option<Value>,
     },
     /// Runs the batch.
-    Go,
+    Go(GoPlan),
+    /// Settles a transaction, or all of them.
+    Resume(Option<TxnId>),
+    /// Takes away what no transaction needs.
+    Prune,
+    /// Takes away what names transactions that are lost.
+    Purge,
+    /// Tells whether the content is sound.
+    Audit,
     /// Prints the documents.
     Show,
+    /// Prints the cells.
+    Export,
+    /// Prints the recorded order.
+    Order,
 }
 
 impl Statement {
@@ -44,13 +65,24 @@ impl Statement {
                 let body = body.copy(alloc)?;
                 Ok(Statement::Doc { key, body })
             }
+            Statement::Place { name, cell } => {
+                let name = name.copy(alloc)?;
+                let cell = cell.copy(alloc)?;
+                Ok(Statement::Place { name, cell })
+            }
             Statement::Submit { id, ops, info } => {
                 let ops = ops.copy(alloc)?;
                 let info = copy_info(alloc, info.as_ref())?;
                 Ok(Statement::Submit { id: *id, ops, info })
             }
-            Statement::Go => Ok(Statement::Go),
+            Statement::Go(plan) => Ok(Statement::Go(plan.copy(alloc)?)),
+            Statement::Resume(id) => Ok(Statement::Resume(*id)),
+            Statement::Prune => Ok(Statement::Prune),
+            Statement::Purge => Ok(Statement::Purge),
+            Statement::Audit => Ok(Statement::Audit),
             Statement::Show => Ok(Statement::Show),
+            Statement::Export => Ok(Statement::Export),
+            Statement::Order => Ok(Statement::Order),
         }
     }
 }
@@ -93,13 +125,34 @@ fn is_blank_byte(byte: u8) -> bool
 }
 
 fn read_statement(alloc: Global, value: &Value) -> Result<Statement, ScriptFault>
-    ensures { result ≢ Err ScriptFault.OutOfMemory →
-        result ≡ statement_of_value (out-Value value.now) }
+    ensures { result ≢ Err ScriptFault.OutOfMemory
+        → result ≡ statement_of_value value.now (out-Value value.now) }
 {
-    match value {
-        Value::Object(fields) => read_fields(alloc, fields.as_slice()),
-        _ => Err(ScriptFault::NotBuilt),
+    let Value::Object(fields) = value else {
+        return Err(ScriptFault::BadStatement);
+    };
+    if is_cell_line(fields.as_slice()) {
+        return read_cell(alloc, value);
     }
+    read_fields(alloc, fields.as_slice())
+}
+
+fn is_cell_line(fields: &[Field]) -> bool
+    ensures { result ≡ is_cell_line fields.now }
+{
+    for field in fields {
+        if is_named(field, b"cell") {
+            return true;
+        }
+    }
+    false
+}
+
+fn read_cell(alloc: Global, value: &Value) -> Result<Statement, ScriptFault>
+    ensures { result ≢ Err ScriptFault.OutOfMemory → result ≡ placing (cell_in value.now) }
+{
+    let Named { name, cell } = read_cell_text(alloc, value)?;
+    Ok(Statement::Place { name, cell })
 }
 
 /// The fields stand in byte order of their names.
@@ -107,6 +160,7 @@ fn read_fields(alloc: Global, fields: &[Field]) -> Result<Statement, ScriptFault
     ensures { result ≢ Err ScriptFault.OutOfMemory → result ≡ statement_of_fields fields.now }
 {
     match fields {
+        [field] => read_field(alloc, field),
         [body, doc] if is_named(body, b"body") && is_named(doc, b"doc") => {
             read_doc(alloc, &doc.value, &body.value)
         }
@@ -117,9 +171,17 @@ fn read_fields(alloc: Global, fields: &[Field]) -> Result<Statement, ScriptFault
             if is_named(info, b"info") && is_named(ops, b"ops") && is_named(txn, b"txn") => {
             read_submission(alloc, &txn.value, Some(&info.value), &ops.value)
         }
-        [go] if is_named(go, b"go") => read_go(&go.value),
-        [show] if is_named(show, b"show") => read_show(&show.value),
-        _ => Err(ScriptFault::NotBuilt),
+        _ => Err(ScriptFault::BadStatement),
+    }
+}
+
+fn read_field(alloc: Global, field: &Field) -> Result<Statement, ScriptFault>
+    ensures { result ≢ Err ScriptFault.OutOfMemory → result ≡ statement_of_one field.now }
+{
+    match field.name.as_bytes() {
+        b"go" => read_go(alloc, &field.value),
+        b"resume" => read_resume(&field.value),
+        name => read_word(name, &field.value),
     }
 }
 
@@ -202,23 +264,62 @@ fn copy_info(alloc: Global, info: Option<&Value>) -> Result<Option<Value>, OutOf
     }
 }
 
-fn read_go(plan: &Value) -> Result<Statement, ScriptFault>
-    ensures { result ≡ go_in (out-Value plan.now) }
+/// A plan that says anything is not built yet.
+fn read_go(alloc: Global, value: &Value) -> Result<Statement, ScriptFault>
+    ensures { result ≢ Err ScriptFault.OutOfMemory → result ≡ go_in value.now }
 {
-    let Value::Object(fields) = plan else {
-        return Err(ScriptFault::NotBuilt);
-    };
-    if !fields.as_slice().is_empty() {
+    let plan = GoPlan::read(alloc, value)?;
+    if !has_no_fields(value) {
         return Err(ScriptFault::NotBuilt);
     }
-    Ok(Statement::Go)
+    Ok(Statement::Go(plan))
 }
 
-fn read_show(value: &Value) -> Result<Statement, ScriptFault>
-    ensures { result ≡ show_in (out-Value value.now) }
+fn has_no_fields(value: &Value) -> bool
+    ensures { result ≡ has_no_fields (out-Value value.now) }
 {
     match value {
-        Value::Bool(true) => Ok(Statement::Show),
-        _ => Err(ScriptFault::NotBuilt),
+        Value::Object(fields) => fields.as_slice().is_empty(),
+        _ => false,
+    }
+}
+
+/// An id, or `all`.
+fn read_resume(value: &Value) -> Result<Statement, ScriptFault>
+    ensures { result ≡ resume_in value.now }
+{
+    let Value::Text(text) = value else {
+        return Err(ScriptFault::BadId);
+    };
+    if text.as_bytes() == b"all".as_slice() {
+        return Ok(Statement::Resume(None));
+    }
+    match TxnId::read(text.as_bytes()) {
+        Some(id) => Ok(Statement::Resume(Some(id))),
+        None => Err(ScriptFault::BadId),
+    }
+}
+
+fn read_word(name: &[u8], value: &Value) -> Result<Statement, ScriptFault>
+    ensures { result ≡ asked name.now (out-Value value.now) }
+{
+    match value {
+        Value::Bool(true) => word(name).ok_or(ScriptFault::BadStatement),
+        _ => Err(ScriptFault::BadStatement),
+    }
+}
+
+/// The statement that is a word with `true`.
+fn word(name: &[u8]) -> Option<Statement>
+    ensures { result ≡ word_in name.now }
+{
+    match name {
+        b"prune" => Some(Statement::Prune),
+        b"purge" => Some(Statement::Purge),
+        b"audit" => Some(Statement::Audit),
+        b"show" => Some(Statement::Show),
+        b"export" => Some(Statement::Export),
+        b"order" => Some(Statement::Order),
+        _ => None,
     }
 }

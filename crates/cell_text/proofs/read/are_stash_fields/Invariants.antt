@@ -1,0 +1,7 @@
+use Rattle.std.proofs.Common.{◌≡◌, drop}
+use Rattle.std.specs.List.{list_all}
+use Rattle.cell_text.specs.Syntax.{is_stash_name}
+use Rattle.cell_text.proofs.read.are_stash_fields.Given as goal
+
+abbrev pub invariant-loop-field : goal.invariant-loop-field
+invariant-loop-field l = list_all (λ field. is_stash_name field.name) (drop l.field-index l.fields) ≡ list_all (λ field. is_stash_name field.name) l.fields
