@@ -24,6 +24,11 @@ One transaction of one operation in a line of N bytes, which is applied:
     bench/make.py query N       a query of many names
     bench/make.py update N      an update of many paths
 
+A store of N cells that are placed and printed again: N / 2 settled records, and as many documents whose queues
+name them, in the order of names:
+
+    bench/make.py cells N
+
 Operations that are read and not run, since a line is refused behind them (status 3):
 
     bench/make.py operations N  one line of N operations, 16,000 bytes each (at most 1,000)
@@ -109,6 +114,21 @@ def long_operation(form, size):
     yield '{"go":{}}'
 
 
+def cells(form, count):
+    half = count // 2
+    for n in range(half):
+        yield (
+            '{"cell":"record","is":{"_id":"%024x","n":"%08x","o":[%s],"r":[0],"s":6}}'
+            % (n + 1, n, setting(n, n))
+        )
+    for n in range(count - half):
+        yield (
+            '{"c":"k","cell":"doc","is":{"_id":%d,"txn-queue":["%024x_%08x"],"txn-revno":1,"v":%d}}'
+            % (n, n % half + 1, n % half, n)
+        )
+    yield '{"export":true}'
+
+
 def many_operations(form, count):
     yield document(0)
     operation = '{"c":"k","d":0,%s}' % query_of(16_000 - 24)
@@ -126,7 +146,7 @@ def many_waiting(form, count):
 FORMS = dict.fromkeys(OPERATIONS, batches)
 FORMS.update(dict.fromkeys(["list", "text", "objects", "names"], long_line))
 FORMS.update(dict.fromkeys(["query", "update"], long_operation))
-FORMS.update({"operations": many_operations, "waiting": many_waiting})
+FORMS.update({"cells": cells, "operations": many_operations, "waiting": many_waiting})
 
 
 def main():

@@ -19,6 +19,7 @@ BYTES = [2**20, 2**21, 2**22, 2**23, 2**24]
 SIZES = {
     "apart": COUNTS, "one": COUNTS, "applied": COUNTS, "mixed": COUNTS, "aborted": COUNTS,
     "list": BYTES, "text": BYTES, "objects": BYTES, "names": BYTES, "query": BYTES, "update": BYTES,
+    "cells": [25_000, 50_000, 100_000, 200_000],
     "operations": [125, 250, 500, 1_000], "waiting": [1_250, 2_500, 5_000, 10_000],
 }
 # The status that a form's script ends with, where it isn't 0.

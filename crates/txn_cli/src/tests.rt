@@ -180,7 +180,12 @@ fn copied_transactions(rt: HostRuntime) -> Result<(), Fail> {
     let Ok(Some(Statement::Submit { id, ops, .. })) = read_line(alloc, line) else {
         return Err("no transaction".into());
     };
-    let copy = Waiting { id, ops }.copy(alloc)?;
+    let copy = Waiting {
+        id,
+        info: None,
+        ops,
+    }
+    .copy(alloc)?;
     assert_eq!(rt; copy.id, TxnId([0, 0, 0, 0, 0, 0, 0, 0, 0, 0, 0, 1]));
     assert_eq!(rt; copy.ops.as_slice().len(), 1);
     Ok(())

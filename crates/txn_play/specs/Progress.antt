@@ -1,5 +1,5 @@
 -- How far a script has come, and what each statement does to that.
-use Rattle.std.specs.Prelude.{◌≡◌, ◌≢◌, ◌≤◌, ℕ, ◌&&◌, ◌||◌, Bool, true, false, not, nat_le, pos, List, [], ◌∷◌, ◌++◌, length, map, Option, Some, None, is_none, if◌then◌else◌}
+use Rattle.std.specs.Prelude.{◌≡◌, ◌≢◌, ◌≤◌, ℕ, ◌&&◌, ◌||◌, ◌==◌, Bool, true, false, not, nat_le, pos, List, [], ◌∷◌, ◌++◌, length, map, Option, Some, None, is_none, if◌then◌else◌}
 use Rattle.std.specs.FinMap.{entries, get, insert}
 use Rattle.std.specs.List.{flat_map, list_all}
 use Rattle.doc_value.specs.declared.value.Value.{Value}
@@ -21,7 +21,7 @@ use Rattle.txn_runner.specs.Built.{is_built}
 use Rattle.txn_runner.specs.Numbers.{Uses}
 use Rattle.txn_runner.specs.Store.{has_document, has_record}
 use Rattle.txn_runner.specs.declared.waiting.Waiting.{Waiting}
-use Rattle.txn_script.specs.Statements.{is_default}
+use Rattle.txn_script.specs.declared.plan.GoPlan.{GoPlan}
 use Rattle.txn_script.specs.declared.statement.Statement.{Statement}
 use Rattle.txn_script.specs.declared.statement.Statement.TheVariants as statement
 use Rattle.txn_play.specs.Batches.{waits, Every, StandsIn, record_states}
@@ -98,6 +98,10 @@ against_waiting p id ops =
 -- a document as a `doc` line places it
 abbrev pub placed_doc : Value → Cell
 placed_doc body = cell.Doc (record { body = body; revno = pos 0; queue = []; remove = None })
+
+-- how a batch is run where nothing is said: by one runner, to its end
+abbrev pub is_default : GoPlan → Bool
+is_default plan = plan.runners == 1 && plan.seed == 0 && is_nothing plan.stops && plan.finish
 
 -- the first objection to a statement where nothing waits that it lets run; none says that it is done
 abbrev pub against : Progress → Statement → Option Objection

@@ -1,14 +1,16 @@
 -- A script as it is played: what holds between two statements, and what each call for one keeps.
-use Rattle.std.specs.Prelude.{◌≡◌, Bool, false, [], length, Option, Some, Result, OnOk, IsTrue}
+use Rattle.std.specs.Prelude.{◌≡◌, Bool, false, [], length, Option, Some, Result, OnOk, IfErr, IfOk, IsTrue}
 use Rattle.store_trait.specs.Calls.{Rose}
 use Rattle.store_trait.specs.Stores.{CallsGoOn}
 use Rattle.store_trait.specs.declared.store.Store.{Ghosts}
 use Rattle.txn_runner.specs.Numbers.{Suffices}
 use Rattle.txn_play.specs.Batches.{MayRun}
 use Rattle.txn_play.specs.Remains.{HasLeft, Holding}
-use Rattle.txn_play.specs.Progress.{Progress, holding_at}
+use Rattle.txn_script.specs.declared.statement.Statement.{Statement}
+use Rattle.txn_play.specs.Progress.{Does, Progress, holding_at, objection_to, runs_batch}
 use Rattle.txn_play.specs.Refusals.{HasCause, HasReason, IsUnspent}
 use Rattle.txn_play.specs.Runs.{RunsGoOn}
+use Rattle.txn_play.specs.declared.answer.Answer.{Answer}
 use Rattle.txn_play.specs.declared.objection.Objection.{Objection}
 use Rattle.txn_play.specs.declared.refusal.Refusal.{Refusal}
 use Rattle.txn_play.specs.declared.refusal.Refusal.TheVariants as refusal
@@ -80,3 +82,11 @@ pub record IsRefused {S : Type 0} (store : Ghosts S) (may_run : Bool) (old new :
   pub left : IsTrue store.tells → HasLeft may_run old.batch (store.trail new.store)
       (holding store old) (holding store new) why
   pub caused : IsCaused store old new why
+
+-- a statement was done, or refused by the first objection to it or for a cause; and what each call keeps is kept
+pub record HasAttended {S : Type 0} (store : Ghosts S) (s : Statement) (old new : Session S)
+    (result : Result Answer Refusal) : Type 0 where
+  pub done : IsTrue store.tells → IfOk result (Does s (at store old) (at store new))
+  pub against : IsTrue store.tells → IfErr result (IsAgainst (objection_to (at store old) s))
+  pub refused : IfErr result (IsRefused store (runs_batch s) old new)
+  pub kept : IsKept store old new result

@@ -1,8 +1,8 @@
 //! A script as it is played: what each statement does to the store, and what it answers.
 
 ghost use Rattle.std.specs.Prelude.{◌≡◌, [], true, IsTrue, IfOk, OnOk, IfErr};
-ghost use Rattle.txn_play.specs.Attending.{HasAttended};
-ghost use Rattle.txn_play.specs.Progress.{lets_run, objection_to, runs_batch, unless_alone, Does, RunsBatch};
+ghost use Rattle.txn_play.specs.Sessions.{HasAttended};
+ghost use Rattle.txn_play.specs.Progress.{is_default, lets_run, objection_to, runs_batch, unless_alone, Does, RunsBatch};
 ghost use Rattle.txn_play.specs.Sessions.{IsAgainst, IsKept, IsRefused, Stands, at};
 ghost use Rattle.txn_script.specs.declared.statement.Statement.TheVariants as statement;
 
@@ -44,6 +44,13 @@ pub fn lets_run(statement: &Statement) -> bool
         Statement::Submit { .. } | Statement::Go(_) => false,
         Statement::Resume(_) | Statement::Prune | Statement::Purge | Statement::Audit => false,
     }
+}
+
+/// Whether a batch is run as where nothing is said: by one runner, to its end.
+fn is_default(plan: &GoPlan) -> bool
+    ensures { result ≡ is_default plan.now }
+{
+    plan.runners == 1 && plan.seed == 0 && plan.stops.as_slice().is_empty() && plan.finish
 }
 
 impl<S: Store> Session<S> {
@@ -134,7 +141,7 @@ impl<S: Store> Session<S> {
         requires stands { Stands S.Store self.old }
         ensures { HasAttended S.Store (statement.Go plan.now) self.old self.new result }
     {
-        if plan.is_default() {
+        if is_default(plan) {
             self.go(alloc)
         } else {
             Err(Refusal::Objected(Objection::NotBuilt))

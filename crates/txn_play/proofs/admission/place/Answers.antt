@@ -1,0 +1,11 @@
+use Rattle.txn_play.proofs.Placing.{places}
+use Rattle.txn_play.proofs.admission.place.Goals as goal
+
+pub returns-clause-free : goal.returns-clause-free
+returns-clause-free g c = λ told. (places _ _ _ _ _ (c.in_ok-edited.ensures.made told)).free
+
+pub returns-clause-made : goal.returns-clause-made
+returns-clause-made g c = λ told. (places _ _ _ _ _ (c.in_ok-edited.ensures.made told)).made
+
+pub returns-clause-missed : goal.returns-clause-missed
+returns-clause-missed g c = λ told. (places _ _ _ _ _ (c.in_ok-edited.ensures.made told)).missed
