@@ -197,7 +197,8 @@ impl MemoryStore {
             (logged self.old.calls name.now edit.now (Some (Some after)))) }
         ensures err { OnErr result (self.new ≡ self.old) }
     {
-        let cell = write(
+        let cell = after.copy(alloc)?;
+        write(
             alloc,
             &mut self.cells,
             &mut self.log,
@@ -243,8 +244,7 @@ fn counted_failure(calls: u64) -> u64
     if calls < CALL_LIMIT { calls + 1 } else { calls }
 }
 
-/// Puts the cell that an edit makes under a name, and the edit into the log; answers a copy of the
-/// cell. Memory is taken first.
+/// Puts the cell that an edit makes under a name, and the edit into the log. Memory is taken first.
 fn write(
     alloc: Global,
     cells: &mut Vec<Slot>,
@@ -253,21 +253,23 @@ fn write(
     name: &Name,
     edit: &Edit,
     after: Cell,
-) -> Result<Cell, OutOfMemory>
+) -> Result<(), OutOfMemory>
     requires { IsTrue (is_sorted name_cmp cells.old.items) }
-    ensures answer { IfOk result (λ cell. cell ≡ after) }
     ensures cells { OnOk result (cells.new.items ≡ put name_cmp name.now after cells.old.items) }
     ensures log { OnOk result
         (log.new.items ≡ log.old.items ++ logged call name.now edit.now (Some (Some after))) }
     ensures cells_err { OnErr result (cells.new.items ≡ cells.old.items) }
     ensures log_err { OnErr result (log.new.items ≡ log.old.items) }
 {
-    let answer = after.copy(alloc)?;
-    let change = logged_change(alloc, call, name, edit)?;
-    log.reserve(1)?;
-    positions::put(alloc, cells, name, after)?;
-    note(log, change);
-    Ok(answer)
+    let count = log.len();
+    append(alloc, log, call, name, edit)?;
+    match positions::put(alloc, cells, name, after) {
+        Ok(()) => Ok(()),
+        Err(error) => {
+            log.truncate(count);
+            Err(error)
+        }
+    }
 }
 
 /// Takes out the cell under a name, and notes the edit that does so in the log. Memory is taken
@@ -292,6 +294,23 @@ fn erase(
     log.reserve(1)?;
     note(log, change);
     positions::take_out(cells, name);
+    Ok(())
+}
+
+/// Adds an edit of a cell in a call to the log.
+fn append(
+    alloc: Global,
+    log: &mut Vec<Logged>,
+    call: u64,
+    name: &Name,
+    edit: &Edit,
+) -> Result<(), OutOfMemory>
+    ensures log { OnOk result (log.new.items ≡ log.old.items
+        ++ record { at = call; name = name.now; edit = edit.now } ∷ []) }
+    ensures err { OnErr result (log.new.items ≡ log.old.items) }
+{
+    let change = logged_change(alloc, call, name, edit)?;
+    log.push(change)?;
     Ok(())
 }
 

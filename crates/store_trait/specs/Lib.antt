@@ -1,6 +1,7 @@
 pub mod Names
 pub mod Contents
 pub mod Cells
+pub mod Same
 pub mod Edits
 pub mod Changes
 pub mod Owners

@@ -1,5 +1,5 @@
 -- What calls on a store keep, whatever store it is: the words of `Calls`, at a bound `S: Store`.
-use Rattle.std.specs.Prelude.{◌≡◌, ℕ, ◌+◌, ◌≤◌, ◌⊎◌, IsTrue, Result, OnOk, OnErr, IsErrOf}
+use Rattle.std.specs.Prelude.{◌≡◌, ◌+◌, ◌≤◌, ◌⊎◌, IsTrue, Result, OnOk, OnErr, IsErrOf}
 use Rattle.store_trait.specs.Calls.{Extends, Rose}
 use Rattle.store_trait.specs.declared.store.Store.{Ghosts}
 
