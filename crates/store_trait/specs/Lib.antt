@@ -7,3 +7,4 @@ pub mod Changes
 pub mod Owners
 pub mod Calls
 pub mod Stores
+pub mod Exchanges

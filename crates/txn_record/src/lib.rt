@@ -27,6 +27,6 @@ pub use laws::{
 };
 pub use op::{Assert, Change, Op};
 pub use ops::Ops;
-pub use record::{Record, copy_revnos};
+pub use record::{Record, copy_info, copy_revnos};
 pub use revnos::{Chained, chain, has_room};
 pub use state::State;

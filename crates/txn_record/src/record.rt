@@ -55,7 +55,8 @@ impl Record {
     }
 }
 
-fn copy_info(alloc: Global, info: &Option<Value>) -> Result<Option<Value>, OutOfMemory>
+/// A copy of what is noted with a transaction.
+pub fn copy_info(alloc: Global, info: &Option<Value>) -> Result<Option<Value>, OutOfMemory>
     ensures { IfOk result (λ copy. copy ≡ info.now) }
 {
     match info {

@@ -5,7 +5,7 @@ use Rattle.store_trait.specs.Names.{may_stand}
 use Rattle.store_trait.specs.declared.cell.Cell.{Cell}
 use Rattle.store_memory.specs.Told.{Told, content_of}
 use Rattle.store_memory.proofs.Keeping.{told_of, in_order, kept_put, put_found}
-use Rattle.store_memory.proofs.memory.MemoryStore.put.Goals as goal
+use Rattle.store_memory.proofs.memory.MemoryStore.put_other.Goals as goal
 
 pub write-requires : goal.write-requires
 write-requires c = in_order c.self.inside.cells.items (told_of c.self.inside.log.items c.self.inside.fails.items c.self.inside.calls c.self.inside.faults) c.self.invariant
