@@ -3,3 +3,4 @@ pub mod TrailFaithful
 pub mod TrailLegal
 pub mod TrailTells
 pub mod TrailSplits
+pub mod Exchanges

@@ -6,6 +6,7 @@ mod alone;
 mod deciding;
 mod documents;
 mod edits;
+mod exchanges;
 mod forward;
 mod gathering;
 mod histories;
@@ -25,6 +26,7 @@ pub use deciding::{
 };
 pub use documents::{bodies_as_they_lie, meaning_at_rest};
 pub use edits::{edits_are_local, edits_hit, edits_leave};
+pub use exchanges::exchanges_follow;
 pub use forward::{readiness_lasts, ready_records_share_no_key, steps_follow};
 pub use gathering::{findings_last, gathering_the_ready, gatherings_last, scanning_own_keys};
 pub use histories::{dividing_a_trail, growing_a_trail, reading_an_order, trusting_a_trail};

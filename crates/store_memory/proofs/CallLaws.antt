@@ -1,4 +1,4 @@
-use Rattle.std.proofs.Common.{◌≡◌, ℕ, ◌+◌, ◌≤◌, ◌<◌, min, Bool, true, false, cond, nat_le, nat_lt, List, [], Result, Ok, Err, OnOk, OnErr, IfOk, IsErrOf, IsTrue, is_some, ◌||◌, inl, inr, refl, sym, ap, ◌∙◌, subst, true≢false, arith}
+use Rattle.std.proofs.Common.{◌≡◌, ℕ, ◌+◌, ◌≤◌, ◌<◌, min, Bool, true, false, cond, nat_le, nat_lt, List, [], Result, Ok, Err, OnOk, OnErr, IfOk, IsErrOf, IsTrue, is_some, ◌||◌, ◌⊎◌, inl, inr, refl, sym, ap, ◌∙◌, subst, true≢false, arith}
 use Rattle.std.proofs.lemmas.Bool.Decides.{nat_tests}
 use Rattle.std.specs.FinMap.{get}
 use Rattle.store_trait.specs.Contents.{Content}
@@ -9,7 +9,7 @@ use Rattle.store_trait.specs.declared.edit.Edited.{Edited}
 use Rattle.store_trait.specs.declared.name.Name.{Name}
 use Rattle.store_trait.specs.declared.store.StoreError.{StoreError}
 use Rattle.store_trait.specs.declared.store.StoreError.TheVariants.{Failed, OutOfMemory}
-use Rattle.store_memory.specs.Told.{Told, IsWithinCounts, trail_of, content_of, calls_of, faults_of, fault_limit, fails_next, failed, logged, noted, called, changes_of}
+use Rattle.store_memory.specs.Told.{Told, IsWithinCounts, trail_of, content_of, calls_of, faults_of, fault_limit, fails_next, failed, logged, noted, called, changes_at, changes_of}
 use Rattle.store_memory.specs.CallsMade.{IsAnswer, IsCall}
 use Rattle.store_memory.specs.declared.log.Logged.{Logged}
 use Rattle.store_memory.proofs.Keeping.{told_of, counted_content}
@@ -81,6 +81,11 @@ module _ {A : Type 0} (old new : Told) (changes : List Logged) where
       let faults = ap faults_of (call.failure fails) in
       subst (λ (n : ℕ). Rose (faults_of old) n) (sym faults) (risen old.faults call.counted.faults)
 
+  still : (result : Result A StoreError) → IsCall old new changes result → IsErrOf result Failed ⊎ (faults_of new ≡ faults_of old)
+  still (Ok answer) call = inr (ap faults_of call.success)
+  still (Err Failed) call = inl refl
+  still (Err OutOfMemory) call = inr (ap faults_of (call.memory refl))
+
   counted_once : (result : Result A StoreError) → IsCall old new changes result → (IsErrOf result Failed → ⊥) → old.calls + 1 ≡ counted_call old.calls
   counted_once result call other = sym (counts (nat_le call_limit old.calls) _ old.calls (λ fails. other (call.fails.1 fails)))
 
@@ -95,6 +100,7 @@ module _ {A : Type 0} (old new : Told) (changes : List Logged) where
     made = counted result call;
     later = later result call;
     fault = rose result call;
+    still = still result call;
     spent = λ le. call.fails.1 (reached old.calls _ le);
   }
 
@@ -104,7 +110,7 @@ module _ (old new : Told) (name : Name) (edit : Edit) where
   hit = hit_of edit name (get (content_of old) name)
 
   pub edit_extends : {A : Type 0} (result : Result A StoreError) → IsCall old new (changes_of old name edit) result → Extends content_of trail_of calls_of old new
-  edit_extends result call = extends old new _ (logged_at (old.calls + 1) name edit hit) result call
+  edit_extends result call = extends old new _ (logged_at (old.calls + 1) name edit hit (get (content_of old) name)) result call
 
   -- an edit that is answered was made
   pub edit_made : (result : Result Edited StoreError) → IfOk result (IsAnswer (is_some hit) name new) → IsCall old new (changes_of old name edit) result → IfOk result (IsMade (content_of old) name edit (content_of new))
@@ -129,13 +135,13 @@ module _ (old new : Told) (name : Name) (edit : Edit) where
 -- an edit that was noted after its call was counted
 pub edit_called : {A : Type 0} (log : List Logged) (fails : List ℕ) (calls faults : ℕ) (old new : Told) (name : Name) (edit : Edit) (answer : A)
     → told_of log fails calls faults ≡ old → fails_next old ≡ false → IsWithinCounts (told_of log fails calls faults)
-    → new ≡ noted (told_of log fails (calls + 1) faults) (logged (calls + 1) name edit (hit_of edit name (get (content_of (told_of log fails (calls + 1) faults)) name)))
+    → new ≡ noted (told_of log fails (calls + 1) faults) (changes_at (calls + 1) (told_of log fails (calls + 1) faults) name edit)
     → IsCall old new (changes_of old name edit) (Ok answer)
 edit_called log fails calls faults old new name edit answer is runs made told = record {
   fails = (λ fails. absurd (cc fails), λ fails. absurd (true≢false (sym fails ∙ runs)));
   failure = λ fails. absurd (cc fails);
   memory = λ fails. absurd (cc fails);
-  success = told ∙ ap (λ (c : Content). noted (told_of log fails (calls + 1) faults) (logged (calls + 1) name edit (hit_of edit name (get c name)))) (counted_content log fails calls faults old is made) ∙ ap (λ (t : Told). called t (logged (t.calls + 1) name edit (hit_of edit name (get (content_of old) name)))) is;
+  success = told ∙ ap (λ (c : Content). noted (told_of log fails (calls + 1) faults) (logged (calls + 1) name edit (hit_of edit name (get c name)) (get c name))) (counted_content log fails calls faults old is made) ∙ ap (λ (t : Told). called t (changes_at (t.calls + 1) old name edit)) is;
   counted = subst IsWithinCounts is made;
 }
 

@@ -17,9 +17,9 @@ use Rattle.store_trait.specs.declared.changes.Changed.{Changed}
 use Rattle.store_trait.specs.Changes.{as_hit}
 use Rattle.store_trait.proofs.NameOrder.{name_cmp_total, name_cmp-IsAntisymmetric}
 use Rattle.store_memory.specs.declared.log.Logged.{Logged}
-use Rattle.store_memory.specs.Told.{Told, IsWithinCounts, content_of, fault_limit, logged, noted}
+use Rattle.store_memory.specs.Told.{Told, IsWithinCounts, content_of, fault_limit, noted}
 use Rattle.store_memory.specs.CallsMade.{IsKept}
-use Rattle.store_memory.proofs.Trail.{content_stays, later_made, noted_content, noted_made, logged_at}
+use Rattle.store_memory.proofs.Trail.{content_stays, later_made, noted_content, noted_made}
 
 abbrev pub Entry : Type 0
 Entry = Name × Cell
@@ -149,26 +149,28 @@ entries-remove c name =
     ∙ sym (find-where_key name_cmp (λ other. not (eq_by_cmp name_cmp name other)) q (alike q) (entries c)))
 
 -- an edit puts a cell under its name
-pub kept_put : (cells now : List Entry) (log longer : List Logged) (fails : List ℕ) (calls faults : ℕ) (name : Name) (edit : Edit) (after : Cell) → IsKept cells (told_of log fails calls faults) → may_stand name after ≡ true → hit_of edit name (get (content_of (told_of log fails calls faults)) name) ≡ Some (Some after) → now ≡ put name_cmp name after cells → longer ≡ log ++ logged calls name edit (Some (Some after)) → IsKept now (told_of longer fails calls faults)
+pub kept_put : (cells now : List Entry) (log longer : List Logged) (fails : List ℕ) (calls faults : ℕ) (name : Name) (edit : Edit) (after : Cell) → IsKept cells (told_of log fails calls faults) → may_stand name after ≡ true → hit_of edit name (get (content_of (told_of log fails calls faults)) name) ≡ Some (Some after) → now ≡ put name_cmp name after cells → longer ≡ log ++ record { at = calls; name = name; edit = edit } ∷ [] → IsKept now (told_of longer fails calls faults)
 kept_put cells now log longer fails calls faults name edit after kept kind hits is logs =
     let told = told_of log fails calls faults in
-    let new : Told = noted told (logged calls name edit (Some (Some after))) in
+    let change : Logged = record { at = calls; name = name; edit = edit } in
+    let new : Told = noted told (change ∷ []) in
     let put_there : IsKept now new = record {
       present = ap entries (noted_content told name edit (Some (Some after)) hits) ∙ entries-insert name_cmp_total (content_of told) name after ∙ ap (put name_cmp name after) kept.present ∙ sym is;
       kinds = ap (list_all (λ entry. may_stand entry.0 entry.1)) is ∙ put_good (λ entry. may_stand entry.0 entry.1) name after cells kept.kinds kind;
-      counted = record { made = noted_made told _ (logged_at calls name edit (Some (Some after))) kept.counted.made; faults = kept.counted.faults };
+      counted = record { made = noted_made told (change ∷ []) (refl, tt) kept.counted.made; faults = kept.counted.faults };
     } in
     subst (λ (l : List Logged). IsKept now (told_of l fails calls faults)) (sym logs) put_there
 
 -- an edit takes a cell out
-pub kept_out : (cells now : List Entry) (log longer : List Logged) (fails : List ℕ) (calls faults : ℕ) (name : Name) (edit : Edit) → IsKept cells (told_of log fails calls faults) → hit_of edit name (get (content_of (told_of log fails calls faults)) name) ≡ Some None → now ≡ others name cells → longer ≡ log ++ logged calls name edit (Some None) → IsKept now (told_of longer fails calls faults)
+pub kept_out : (cells now : List Entry) (log longer : List Logged) (fails : List ℕ) (calls faults : ℕ) (name : Name) (edit : Edit) → IsKept cells (told_of log fails calls faults) → hit_of edit name (get (content_of (told_of log fails calls faults)) name) ≡ Some None → now ≡ others name cells → longer ≡ log ++ record { at = calls; name = name; edit = edit } ∷ [] → IsKept now (told_of longer fails calls faults)
 kept_out cells now log longer fails calls faults name edit kept hits is logs =
     let told = told_of log fails calls faults in
-    let new : Told = noted told (logged calls name edit (Some None)) in
+    let change : Logged = record { at = calls; name = name; edit = edit } in
+    let new : Told = noted told (change ∷ []) in
     let out : IsKept now new = record {
       present = ap entries (noted_content told name edit (Some None) hits) ∙ entries-remove (content_of told) name ∙ ap (others name) kept.present ∙ sym is;
       kinds = ap (list_all (λ entry. may_stand entry.0 entry.1)) is ∙ where_good (λ entry. may_stand entry.0 entry.1) _ cells kept.kinds;
-      counted = record { made = noted_made told _ (logged_at calls name edit (Some None)) kept.counted.made; faults = kept.counted.faults };
+      counted = record { made = noted_made told (change ∷ []) (refl, tt) kept.counted.made; faults = kept.counted.faults };
     } in
     subst (λ (l : List Logged). IsKept now (told_of l fails calls faults)) (sym logs) out
 

@@ -1,12 +1,20 @@
-use Rattle.std.proofs.Common.{◌≡◌, ℕ, ◌+◌, ◌<◌, ◌≤◌, true, false, nat_le, cond, List, [], ◌∷◌, ◌++◌, Some, None, refl, sym, ap, ◌∙◌, arith}
+use Rattle.std.proofs.Common.{◌≡◌, ℕ, ◌+◌, ◌<◌, ◌≤◌, true, false, nat_le, cond, List, [], ◌∷◌, ◌++◌, Option, Some, None, refl, sym, ap, ◌∙◌, arith}
 use Rattle.std.proofs.lemmas.Bool.Decides.{nat_tests}
-use Rattle.std.specs.FinMap.{empty, get}
+use Rattle.std.proofs.lemmas.List.{append-nil}
+use Rattle.std.specs.Ordering.{is_eq}
+use Rattle.std.specs.declared.cmp.Ordering.TheVariants.{Less, Equal, Greater}
+use Rattle.std.specs.FinMap.{empty, get, insert, same_map, get-insert}
+use Rattle.store_trait.specs.Names.{name_cmp}
 use Rattle.store_trait.specs.Contents.{Content}
 use Rattle.store_trait.specs.Edits.{Hit, edited, put_under, hit as hit_of}
+use Rattle.store_trait.specs.declared.cell.Cell.{Cell}
 use Rattle.store_trait.specs.declared.edit.Edit.{Edit}
 use Rattle.store_trait.specs.declared.name.Name.{Name}
 use Rattle.store_memory.specs.declared.log.Logged.{Logged}
-use Rattle.store_memory.specs.Told.{Told, with_change, replayed, trail_of, content_of, IsMadeBy, logged, called, noted}
+use Rattle.store_memory.specs.Told.{Told, with_change, replayed, trail_of, content_of, IsMadeBy, is_held, leaves_cell, logged, changes_at, called, noted}
+use Rattle.store_memory.specs.Told.{hit_of as hit_at}
+use Rattle.store_trait.proofs.NameOrder.{name_cmp_total, name_cmp-IsAntisymmetric}
+use Rattle.store_trait.proofs.SameCells.{cell-Decides}
 
 pub made_test : (at calls : ℕ) → at ≤ calls → nat_le at calls ≡ true
 made_test at calls h = grind (arith, nat_tests)
@@ -40,9 +48,12 @@ AreAt call [] = Unit {0}
 AreAt call (change ∷ log) = (change.at ≡ call) × AreAt call log
 
 -- what the log gets of a call was made by it
-pub logged_at : (call : ℕ) (name : Name) (edit : Edit) (hit : Hit) → AreAt call (logged call name edit hit)
-logged_at call name edit None = tt
-logged_at call name edit (Some after) = (refl, tt)
+pub logged_at : (call : ℕ) (name : Name) (edit : Edit) (hit : Hit) (found : Option Cell) → AreAt call (logged call name edit hit found)
+logged_at call name edit hit found =
+    elim (leaves_cell hit found) as (λ b. AreAt call (cond b [] (record { at = call; name = name; edit = edit } ∷ []))) [
+      | true ↦ tt
+      | false ↦ (refl, tt)
+    ]
 
 made_at : (n : ℕ) (changes : List Logged) → AreAt n changes → IsMadeBy n changes
 made_at n [] h = tt
@@ -76,19 +87,63 @@ called_content told changes h = replayed-append empty told.log changes (told.cal
 pub content_same : (told : Told) → IsMadeBy told.calls told.log → content_of (called told []) ≡ content_of told
 content_same told h = called_content told [] h
 
--- an edit makes what it hits
-pub content_after : (told : Told) (name : Name) (edit : Edit) (hit : Hit) → IsMadeBy told.calls told.log → hit_of edit name (get (content_of told) name) ≡ hit → content_of (called told (logged (told.calls + 1) name edit hit)) ≡ put_under (content_of told) name hit
-content_after told name edit None h is = called_content told [] h
-content_after told name edit (Some after) h is =
+-- a cell that stands under a name is put there again
+put_again : (c : Content) (name : Name) (held : Cell) → get c name ≡ Some held → insert c name held ≡ c
+put_again c name held there =
+    same_map name_cmp_total name_cmp-IsAntisymmetric (insert c name held) c (λ q.
+    get-insert name_cmp_total c name held q
+    ∙ elim (name_cmp q name) as (λ r. name_cmp q name ≡ r → cond (is_eq r) (Some held) (get c q) ≡ get c q) [
+      | Less ↦ λ t. refl
+      | Equal ↦ λ t. sym (ap (get c) (name_cmp-IsAntisymmetric q name t) ∙ there)
+      | Greater ↦ λ t. refl
+    ] refl)
+
+pub stands_so : (after : Cell) (found : Option Cell) → is_held after found ≡ true → found ≡ Some after
+stands_so after None h = cc h
+stands_so after (Some held) h = ap Some ((cell-Decides held after).0 h)
+
+-- an edit that is noted in the next call makes what it hits
+changed_then : (told : Told) (name : Name) (edit : Edit) (hit : Hit) → IsMadeBy told.calls told.log → hit_of edit name (get (content_of told) name) ≡ hit → content_of (called told (record { at = told.calls + 1; name = name; edit = edit } ∷ [])) ≡ put_under (content_of told) name hit
+changed_then told name edit hit h is =
     let change : Logged = record { at = told.calls + 1; name = name; edit = edit } in
     called_content told (change ∷ []) h ∙ with_made (told.calls + 1) change (content_of told) (omega arith) ∙ ap (put_under (content_of told) name) is
 
+-- an edit makes what it hits, and isn't noted where that is what stood there
+pub content_after : (told : Told) (name : Name) (edit : Edit) (hit : Hit) → IsMadeBy told.calls told.log → hit_of edit name (get (content_of told) name) ≡ hit → content_of (called told (logged (told.calls + 1) name edit hit (get (content_of told) name))) ≡ put_under (content_of told) name hit
+content_after told name edit None h is = called_content told [] h
+content_after told name edit (Some None) h is = changed_then told name edit (Some None) h is
+content_after told name edit (Some (Some after)) h is =
+    let found = get (content_of told) name in
+    let change : Logged = record { at = told.calls + 1; name = name; edit = edit } in
+    elim (is_held after found) as (λ b. is_held after found ≡ b → content_of (called told (cond b [] (change ∷ []))) ≡ insert (content_of told) name after) [
+      | true ↦ λ t. called_content told [] h ∙ sym (put_again (content_of told) name after (stands_so after found t))
+      | false ↦ λ t. changed_then told name edit (Some (Some after)) h is
+    ] refl
+
 -- an edit that is noted at the present call makes what it hits
-pub noted_content : (told : Told) (name : Name) (edit : Edit) (hit : Hit) → hit_of edit name (get (content_of told) name) ≡ hit → content_of (noted told (logged told.calls name edit hit)) ≡ put_under (content_of told) name hit
-noted_content told name edit None is = replayed-append empty told.log [] told.calls
-noted_content told name edit (Some after) is =
+pub noted_content : (told : Told) (name : Name) (edit : Edit) (hit : Hit) → hit_of edit name (get (content_of told) name) ≡ hit → content_of (noted told (record { at = told.calls; name = name; edit = edit } ∷ [])) ≡ put_under (content_of told) name hit
+noted_content told name edit hit is =
     let change : Logged = record { at = told.calls; name = name; edit = edit } in
     replayed-append empty told.log (change ∷ []) told.calls ∙ with_made told.calls change (content_of told) (omega arith) ∙ ap (put_under (content_of told) name) is
+
+-- what the log gets of an edit that puts a cell: nothing where that stands there
+pub puts_again : (call : ℕ) (told : Told) (name : Name) (edit : Edit) (after : Cell) → hit_at told name edit ≡ Some (Some after) → is_held after (get (content_of told) name) ≡ true → changes_at call told name edit ≡ []
+puts_again call told name edit after hits held =
+    let change : Logged = record { at = call; name = name; edit = edit } in
+    ap (λ hit. logged call name edit hit (get (content_of told) name)) hits ∙ ap (λ b. cond b [] (change ∷ [])) held
+
+pub puts_other : (call : ℕ) (told : Told) (name : Name) (edit : Edit) (after : Cell) → hit_at told name edit ≡ Some (Some after) → is_held after (get (content_of told) name) ≡ false → changes_at call told name edit ≡ record { at = call; name = name; edit = edit } ∷ []
+puts_other call told name edit after hits apart =
+    let change : Logged = record { at = call; name = name; edit = edit } in
+    ap (λ hit. logged call name edit hit (get (content_of told) name)) hits ∙ ap (λ b. cond b [] (change ∷ [])) apart
+
+-- and of one that takes a cell out
+pub takes_out : (call : ℕ) (told : Told) (name : Name) (edit : Edit) → hit_at told name edit ≡ Some None → changes_at call told name edit ≡ record { at = call; name = name; edit = edit } ∷ []
+takes_out call told name edit hits = ap (λ hit. logged call name edit hit (get (content_of told) name)) hits
+
+-- a log that got nothing tells the same
+pub noted_nothing : (told : Told) → noted told [] ≡ told
+noted_nothing told = ap (λ (log : List Logged). record told { log = log }) (append-nil told.log)
 
 -- the changes of the next call are in no earlier content of the trail
 pub trail_stays : (told : Told) (changes : List Logged) → AreAt (told.calls + 1) changes → (n : ℕ) → n ≤ told.calls → trail_of (called told changes) n ≡ trail_of told n

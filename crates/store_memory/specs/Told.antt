@@ -1,10 +1,12 @@
-use Rattle.std.specs.Prelude.{ℕ, ◌+◌, ◌≤◌, min, Bool, ◌||◌, ◌==◌, nat_le, Some, None, List, [], ◌∷◌, ◌++◌, if◌then◌else◌, refl}
+use Rattle.std.specs.Prelude.{ℕ, ◌+◌, ◌≤◌, min, Bool, true, false, Option, ◌||◌, ◌==◌, nat_le, Some, None, List, [], ◌∷◌, ◌++◌, if◌then◌else◌, refl}
 use Rattle.std.specs.Coded.{Coded, code_by, coded×, coded_list, coded_ℕ}
 use Rattle.std.specs.List.{list_any}
 use Rattle.std.specs.FinMap.{empty, get}
 use Rattle.store_trait.specs.Calls.{call_limit, counted_call}
 use Rattle.store_trait.specs.Contents.{Content}
 use Rattle.store_trait.specs.Edits.{Hit, hit, edited}
+use Rattle.store_trait.specs.Same.{same_cell}
+use Rattle.store_trait.specs.declared.cell.Cell.{Cell}
 use Rattle.store_trait.specs.declared.edit.Edit.{Edit}
 use Rattle.store_trait.specs.declared.name.Name.{Name}
 use Rattle.store_memory.specs.declared.log.Logged.{Logged}
@@ -84,18 +86,35 @@ failed told = record told {
   faults = min (told.faults + 1) fault_limit;
 }
 
--- what the log gets of an edit of a cell: nothing where it missed
-abbrev pub logged : ℕ → Name → Edit → Hit → List Logged
-logged call name edit None = []
-logged call name edit (Some after) = record { at = call; name = name; edit = edit } ∷ []
+-- whether that cell stands there
+abbrev pub is_held : Cell → Option Cell → Bool
+is_held cell None = false
+is_held cell (Some held) = same_cell held cell
+
+-- whether an edit leaves the cell that it met: it missed, or put the same cell again
+abbrev pub leaves_cell : Hit → Option Cell → Bool
+leaves_cell None found = true
+leaves_cell (Some None) found = false
+leaves_cell (Some (Some after)) found = is_held after found
+
+-- what the log gets of an edit of a cell: nothing where that stays as it was
+abbrev pub logged : ℕ → Name → Edit → Hit → Option Cell → List Logged
+logged call name edit hit found =
+    if leaves_cell hit found then []
+    else record { at = call; name = name; edit = edit } ∷ []
 
 -- what an edit does to the present content
 abbrev pub hit_of : Told → Name → Edit → Hit
 hit_of told name edit = hit edit name (get (content_of told) name)
 
+-- what the log gets of an edit in that call
+abbrev pub changes_at : ℕ → Told → Name → Edit → List Logged
+changes_at call told name edit =
+    logged call name edit (hit_of told name edit) (get (content_of told) name)
+
 -- what the log gets of the next call, where that edits a cell
 abbrev pub changes_of : Told → Name → Edit → List Logged
-changes_of told name edit = logged (told.calls + 1) name edit (hit_of told name edit)
+changes_of told name edit = changes_at (told.calls + 1) told name edit
 
 -- what is told once the log got these changes
 abbrev pub noted : Told → List Logged → Told

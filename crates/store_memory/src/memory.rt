@@ -8,7 +8,7 @@ ghost use Rattle.store_trait.specs.Contents.{is_past, first_past, named};
 ghost use Rattle.store_trait.specs.Edits.{may_leave};
 ghost use Rattle.store_trait.specs.Calls.{counted_call, IsOfKind};
 ghost use Rattle.store_trait.specs.Changes.{as_hit};
-ghost use Rattle.store_memory.specs.Told.{opened, content_of, IsWithinCounts, fails_next, failed, hit_of, logged, changes_of, noted};
+ghost use Rattle.store_memory.specs.Told.{opened, content_of, IsWithinCounts, fails_next, failed, hit_of, is_held, changes_at, changes_of, noted};
 ghost use Rattle.store_memory.specs.CallsMade.{IsAnswer, IsCall};
 
 use crate::log::Logged;
@@ -156,7 +156,7 @@ impl MemoryStore {
         ensures done { IfOk result
             (IsAnswer (is_some (hit_of self.old name.now edit.now)) name.now self.new) }
         ensures told { OnOk result (self.new ≡ noted self.old
-            (logged self.old.calls name.now edit.now (hit_of self.old name.now edit.now))) }
+            (changes_at self.old.calls self.old name.now edit.now)) }
         ensures err { OnErr result (self.new ≡ self.old) }
     {
         match self.changed(alloc, name, edit)? {
@@ -182,7 +182,8 @@ impl MemoryStore {
         Ok(Edited { hit: false, cell })
     }
 
-    /// Puts the cell that an edit makes under a name.
+    /// Puts the cell that an edit makes under a name. One that stands there is left, so that the log
+    /// has no more than the changes.
     fn put(
         &mut self,
         alloc: Global,
@@ -194,10 +195,43 @@ impl MemoryStore {
         requires kind { IsTrue (may_stand name.now after) }
         ensures done { IfOk result (IsAnswer true name.now self.new) }
         ensures told { OnOk result (self.new ≡ noted self.old
-            (logged self.old.calls name.now edit.now (Some (Some after)))) }
+            (changes_at self.old.calls self.old name.now edit.now)) }
         ensures err { OnErr result (self.new ≡ self.old) }
     {
-        let cell = write(
+        if self.holds(name, &after) {
+            Ok(Edited {
+                hit: true,
+                cell: Some(after),
+            })
+        } else {
+            self.put_other(alloc, name, edit, after)
+        }
+    }
+
+    /// Whether that cell stands under a name.
+    fn holds(&self, name: &Name, cell: &Cell) -> bool
+        ensures { result ≡ is_held cell.now (get (content_of self.now) name.now) }
+    {
+        positions::holds(&self.cells, name, cell)
+    }
+
+    /// Puts the cell that an edit makes under a name, in the place of another one or of none.
+    fn put_other(
+        &mut self,
+        alloc: Global,
+        name: &Name,
+        edit: &Edit,
+        after: Cell,
+    ) -> Result<Edited, OutOfMemory>
+        requires hits { hit_of self.old name.now edit.now ≡ Some (Some after) }
+        requires kind { IsTrue (may_stand name.now after) }
+        ensures done { IfOk result (IsAnswer true name.now self.new) }
+        ensures told { OnOk result (self.new ≡ noted self.old
+            (record { at = self.old.calls; name = name.now; edit = edit.now } ∷ [])) }
+        ensures err { OnErr result (self.new ≡ self.old) }
+    {
+        let cell = after.copy(alloc)?;
+        write(
             alloc,
             &mut self.cells,
             &mut self.log,
@@ -217,7 +251,7 @@ impl MemoryStore {
         requires hits { hit_of self.old name.now edit.now ≡ Some None }
         ensures done { IfOk result (IsAnswer true name.now self.new) }
         ensures told { OnOk result (self.new ≡ noted self.old
-            (logged self.old.calls name.now edit.now (Some None))) }
+            (record { at = self.old.calls; name = name.now; edit = edit.now } ∷ [])) }
         ensures err { OnErr result (self.new ≡ self.old) }
     {
         erase(
@@ -243,8 +277,7 @@ fn counted_failure(calls: u64) -> u64
     if calls < CALL_LIMIT { calls + 1 } else { calls }
 }
 
-/// Puts the cell that an edit makes under a name, and the edit into the log; answers a copy of the
-/// cell. Memory is taken first.
+/// Puts the cell that an edit makes under a name, and the edit into the log. Memory is taken first.
 fn write(
     alloc: Global,
     cells: &mut Vec<Slot>,
@@ -253,21 +286,23 @@ fn write(
     name: &Name,
     edit: &Edit,
     after: Cell,
-) -> Result<Cell, OutOfMemory>
+) -> Result<(), OutOfMemory>
     requires { IsTrue (is_sorted name_cmp cells.old.items) }
-    ensures answer { IfOk result (λ cell. cell ≡ after) }
     ensures cells { OnOk result (cells.new.items ≡ put name_cmp name.now after cells.old.items) }
-    ensures log { OnOk result
-        (log.new.items ≡ log.old.items ++ logged call name.now edit.now (Some (Some after))) }
+    ensures log { OnOk result (log.new.items ≡ log.old.items
+        ++ record { at = call; name = name.now; edit = edit.now } ∷ []) }
     ensures cells_err { OnErr result (cells.new.items ≡ cells.old.items) }
     ensures log_err { OnErr result (log.new.items ≡ log.old.items) }
 {
-    let answer = after.copy(alloc)?;
-    let change = logged_change(alloc, call, name, edit)?;
-    log.reserve(1)?;
-    positions::put(alloc, cells, name, after)?;
-    note(log, change);
-    Ok(answer)
+    let count = log.len();
+    append(alloc, log, call, name, edit)?;
+    match positions::put(alloc, cells, name, after) {
+        Ok(()) => Ok(()),
+        Err(error) => {
+            log.truncate(count);
+            Err(error)
+        }
+    }
 }
 
 /// Takes out the cell under a name, and notes the edit that does so in the log. Memory is taken
@@ -283,8 +318,8 @@ fn erase(
     requires { IsTrue (is_sorted name_cmp cells.old.items) }
     ensures cells { OnOk result (cells.new.items
         ≡ where_key name_cmp (λ other. not (eq_by_cmp name_cmp name.now other)) cells.old.items) }
-    ensures log { OnOk result
-        (log.new.items ≡ log.old.items ++ logged call name.now edit.now (Some None)) }
+    ensures log { OnOk result (log.new.items ≡ log.old.items
+        ++ record { at = call; name = name.now; edit = edit.now } ∷ []) }
     ensures cells_err { OnErr result (cells.new.items ≡ cells.old.items) }
     ensures log_err { OnErr result (log.new.items ≡ log.old.items) }
 {
@@ -292,6 +327,23 @@ fn erase(
     log.reserve(1)?;
     note(log, change);
     positions::take_out(cells, name);
+    Ok(())
+}
+
+/// Adds an edit of a cell in a call to the log.
+fn append(
+    alloc: Global,
+    log: &mut Vec<Logged>,
+    call: u64,
+    name: &Name,
+    edit: &Edit,
+) -> Result<(), OutOfMemory>
+    ensures log { OnOk result (log.new.items ≡ log.old.items
+        ++ record { at = call; name = name.now; edit = edit.now } ∷ []) }
+    ensures err { OnErr result (log.new.items ≡ log.old.items) }
+{
+    let change = logged_change(alloc, call, name, edit)?;
+    log.push(change)?;
     Ok(())
 }
 

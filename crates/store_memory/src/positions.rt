@@ -5,6 +5,7 @@ ghost use Rattle.std.specs.FinMap.Entries.{find as value_of, put, is_sorted, whe
 ghost use Rattle.store_trait.specs.Names.{name_cmp};
 ghost use Rattle.store_trait.specs.Contents.{is_past, named};
 ghost use Rattle.store_memory.specs.Positions.{GoesAt, StandsAt};
+ghost use Rattle.store_memory.specs.Told.{is_held};
 
 use crate::slot::Slot;
 use doc_value::OutOfMemory;
@@ -31,6 +32,17 @@ pub(crate) fn look<'a>(cells: &'a [Slot], name: &Name) -> Option<&'a Cell>
     match seek(cells, name) {
         Ok(position) => Some(cells[position].cell()),
         Err(_) => None,
+    }
+}
+
+/// Whether that cell stands under a name.
+pub(crate) fn holds(cells: &[Slot], name: &Name, cell: &Cell) -> bool
+    requires { IsTrue (is_sorted name_cmp cells.now) }
+    ensures { result ≡ is_held cell.now (value_of name_cmp name.now cells.now) }
+{
+    match look(cells, name) {
+        Some(held) => held.equals(cell),
+        None => false,
     }
 }
 

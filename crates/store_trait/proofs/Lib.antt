@@ -1,3 +1,4 @@
 pub mod NameOrder
+pub mod SameCells
 pub mod HitKinds
 pub mod OneCalls

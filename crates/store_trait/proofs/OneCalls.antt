@@ -26,4 +26,5 @@ one_call store old new result trail counted = record {
       (one_more (nat_le call_limit (store.calls old)) (store.calls old)));
   later = counted.later;
   fault = counted.fault;
+  still = counted.still;
 }

@@ -40,13 +40,14 @@ Extends content trail calls old new =
     GoesOn (trail old) (trail new) (calls old) (calls new) (content new)
 
 -- A call is counted, whatever it answers. It fails only where the count of faults rose, which never
--- falls, and always once no further call is counted.
+-- falls, and stays where the call didn't fail; and always once no further call is counted.
 pub record IsCounted {S A : Type 0} (calls faults : S → ℕ) (old new : S) (result : Result A StoreError)
     : Type 0 where
   pub once : calls new ≡ counted_call (calls old)
   pub made : OnOk result (calls new ≡ calls old + 1)
   pub later : faults old ≤ faults new
   pub fault : IsErrOf result Failed → Rose (faults old) (faults new)
+  pub still : IsErrOf result Failed ⊎ (faults new ≡ faults old)
   pub spent : call_limit ≤ calls old → IsErrOf result Failed
 
 -- an edit was made where its guard held, and the answer says so, with the cell after it

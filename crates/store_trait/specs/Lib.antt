@@ -1,8 +1,10 @@
 pub mod Names
 pub mod Contents
 pub mod Cells
+pub mod Same
 pub mod Edits
 pub mod Changes
 pub mod Owners
 pub mod Calls
 pub mod Stores
+pub mod Exchanges

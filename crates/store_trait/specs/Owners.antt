@@ -14,4 +14,5 @@ abbrev pub owner_of : Option DocCell → Option StashCell → Side
 owner_of None None = side.Neither
 owner_of (Some doc) None = side.Document
 owner_of None (Some stash) = side.Stash
-owner_of (Some doc) (Some stash) = if nat_lt (epoch doc.revno) (epoch stash.revno) then side.Stash else side.Document
+owner_of (Some doc) (Some stash) =
+    if nat_lt (epoch doc.revno) (epoch stash.revno) then side.Stash else side.Document

@@ -37,8 +37,8 @@ impl DocCell {
     }
 }
 
-/// What is kept of a key whose document is missing: its (negative) revision number, who waits on it,
-/// and who is about to insert it.
+/// What is kept of a key whose document is missing: its (negative) revision number, who waits on
+/// it, and who is about to insert it.
 #[derive(Drop)]
 pub struct StashCell {
     pub revno: i64,

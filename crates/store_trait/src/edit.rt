@@ -1,8 +1,8 @@
 ghost use Rattle.std.specs.Prelude.{◌≡◌, IfOk};
 
-use crate::cell::Cell;
+use crate::cell::{Cell, Tokens};
 use doc_update::Update;
-use doc_value::OutOfMemory;
+use doc_value::{OutOfMemory, Value};
 use sqlite_items::Items;
 use std::alloc::Global;
 use txn_key::Token;
@@ -23,7 +23,8 @@ pub enum Edit {
         nonce: Option<u32>,
         revnos: Option<Items<i64>>,
     },
-    /// A token at the end of an unmarked document's queue, unless it is there.
+    /// A token at the end of the queue of an unmarked document or stash entry, unless it is there.
+    /// An absent entry is made, at -1.
     AddToken {
         token: Token,
     },
@@ -34,11 +35,52 @@ pub enum Edit {
         token: Token,
         update: Update,
     },
+    /// The mark of a token that is about to remove the document: an unmarked one at `revno`, with
+    /// the token in its queue.
+    MarkRemove {
+        revno: i64,
+        token: Token,
+    },
+    /// The mark of a token that is about to insert the document: on an unmarked stash entry at
+    /// `revno`, with the token in its queue.
+    MarkInsert {
+        revno: i64,
+        token: Token,
+    },
+    /// An unmarked document, where there is none, or one at a smaller number.
+    PutDocNewer {
+        revno: i64,
+        body: Value,
+        queue: Tokens,
+    },
+    /// An unmarked stash entry, where there is none, or one of a smaller epoch.
+    PutStashNewer {
+        revno: i64,
+        queue: Tokens,
+    },
+    /// A document at `revno` goes.
+    DropDoc {
+        revno: i64,
+    },
+    /// A token leaves the queue of an unmarked document or stash entry at `revno`.
+    Pull {
+        revno: i64,
+        token: Token,
+    },
     /// The next nonce, where one is left.
     DrawNonce,
     /// A cell, where its name has none.
     Place {
         cell: Cell,
+    },
+    /// A cell goes, where it is equal to this one.
+    Erase {
+        cell: Cell,
+    },
+    /// Another cell, where the one there is equal to `old`.
+    Replace {
+        old: Cell,
+        new: Cell,
     },
 }
 
@@ -79,10 +121,48 @@ impl Edit {
                     update,
                 })
             }
+            Edit::MarkRemove { revno, token } => Ok(Edit::MarkRemove {
+                revno: *revno,
+                token: *token,
+            }),
+            Edit::MarkInsert { revno, token } => Ok(Edit::MarkInsert {
+                revno: *revno,
+                token: *token,
+            }),
+            Edit::PutDocNewer { revno, body, queue } => {
+                let body = body.copy(alloc)?;
+                let queue = Items::from_slice(alloc, queue.as_slice())?;
+                Ok(Edit::PutDocNewer {
+                    revno: *revno,
+                    body,
+                    queue,
+                })
+            }
+            Edit::PutStashNewer { revno, queue } => {
+                let queue = Items::from_slice(alloc, queue.as_slice())?;
+                Ok(Edit::PutStashNewer {
+                    revno: *revno,
+                    queue,
+                })
+            }
+            Edit::DropDoc { revno } => Ok(Edit::DropDoc { revno: *revno }),
+            Edit::Pull { revno, token } => Ok(Edit::Pull {
+                revno: *revno,
+                token: *token,
+            }),
             Edit::DrawNonce => Ok(Edit::DrawNonce),
             Edit::Place { cell } => {
                 let cell = cell.copy(alloc)?;
                 Ok(Edit::Place { cell })
+            }
+            Edit::Erase { cell } => {
+                let cell = cell.copy(alloc)?;
+                Ok(Edit::Erase { cell })
+            }
+            Edit::Replace { old, new } => {
+                let old = old.copy(alloc)?;
+                let new = new.copy(alloc)?;
+                Ok(Edit::Replace { old, new })
             }
         }
     }

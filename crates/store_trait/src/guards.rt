@@ -1,98 +1,22 @@
-ghost use Rattle.std.specs.Prelude.{◌≡◌, ℕ, ℤ, List, Option, is_some};
+//! The guards of edits: what each asks of the cell that it meets.
+ghost use Rattle.std.specs.Prelude.{◌≡◌, ◌&&◌, nat_lt, ℤ};
 ghost use Rattle.std.specs.Option.{option_copied};
+ghost use Rattle.std.specs.Ordering.{int_eq};
 ghost use Rattle.store_trait.specs.Names.{same_id, same_state, may_stand};
-ghost use Rattle.txn_key.specs.declared.id.Token.{Token as TokenValue};
-ghost use Rattle.txn_record.specs.declared.state.State.{State as StateValue};
-ghost use Rattle.store_trait.specs.Edits.{same_token, has_token, is_updatable, hit, hit_insert_record, hit_move, hit_add_token, hit_doc_update, hit_update, hit_draw_nonce, hit_place};
+ghost use Rattle.store_trait.specs.Same.{same_cell};
+ghost use Rattle.store_trait.specs.Edits.{has_token, is_updatable, is_free_doc, is_free_stash, is_newer_doc, is_newer_stash, nonce_limit};
 
-use crate::cell::{Cell, DocCell};
-use crate::edit::Edit;
+use crate::cell::{Cell, DocCell, StashCell};
+use crate::equality::{same_id, same_token};
 use crate::name::Name;
-use doc_apply::fits;
-use doc_update::Update;
-use txn_key::{Token, TxnId};
+use txn_key::Token;
 use txn_record::{Record, State};
 
-/// Whether an edit hits the cell that stands under a name, if one does.
-pub fn hits(name: &Name, edit: &Edit, cell: Option<&Cell>) -> bool
-    ensures { result ≡ is_some (hit edit.now name.now (option_copied cell.entry)) }
+/// Whether a record is in a state.
+pub(crate) fn is_in(rec: &Record, state: State) -> bool
+    ensures { result ≡ same_state rec.now.state state }
 {
-    match edit {
-        Edit::InsertRecord { rec } => inserts_record(name, rec, cell),
-        Edit::Move { from, .. } => moves(name, *from, cell),
-        Edit::AddToken { .. } => adds_token(name, cell),
-        Edit::Update {
-            revno,
-            token,
-            update,
-        } => updates(name, *revno, token, update, cell),
-        Edit::DrawNonce => draws_nonce(name, cell),
-        Edit::Place { cell: placed } => places(name, placed, cell),
-    }
-}
-
-fn inserts_record(name: &Name, rec: &Record, cell: Option<&Cell>) -> bool
-    ensures { result ≡ is_some (hit_insert_record rec.now name.now (option_copied cell.entry)) }
-{
-    match (name, cell) {
-        (Name::Record(id), None) => same_id(id, &rec.id),
-        _ => false,
-    }
-}
-
-fn moves(name: &Name, from: State, cell: Option<&Cell>) -> bool
-    ensures { (to : StateValue) (nonce : Option ℕ) (revnos : Option (List ℤ))
-        → result ≡ is_some (hit_move from to nonce revnos name.now (option_copied cell.entry)) }
-{
-    match (name, cell) {
-        (Name::Record(_), Some(Cell::Record(rec))) => same_state(rec.state, from),
-        _ => false,
-    }
-}
-
-fn adds_token(name: &Name, cell: Option<&Cell>) -> bool
-    ensures { (token : TokenValue)
-        → result ≡ is_some (hit_add_token token name.now (option_copied cell.entry)) }
-{
-    match (name, cell) {
-        (Name::Doc(_), Some(Cell::Doc(doc))) => doc.remove.is_none(),
-        _ => false,
-    }
-}
-
-fn updates(name: &Name, revno: i64, token: &Token, update: &Update, cell: Option<&Cell>) -> bool
-    ensures { result ≡ is_some (hit_update revno token.now update.now name.now
-        (option_copied cell.entry)) }
-{
-    match (name, cell) {
-        (Name::Doc(_), Some(Cell::Doc(doc))) => updates_doc(revno, token, update, doc),
-        _ => false,
-    }
-}
-
-fn updates_doc(revno: i64, token: &Token, update: &Update, doc: &DocCell) -> bool
-    ensures { result ≡ is_some (hit_doc_update revno token.now update.now doc.now) }
-{
-    takes_update(doc, revno, token) && fits(update, &doc.body)
-}
-
-fn draws_nonce(name: &Name, cell: Option<&Cell>) -> bool
-    ensures { result ≡ is_some (hit_draw_nonce name.now (option_copied cell.entry)) }
-{
-    match (name, cell) {
-        (Name::Nonce, None) => true,
-        (Name::Nonce, Some(Cell::Nonce(counter))) => *counter < u32::MAX,
-        _ => false,
-    }
-}
-
-fn places(name: &Name, placed: &Cell, cell: Option<&Cell>) -> bool
-    ensures { result ≡ is_some (hit_place placed.now name.now (option_copied cell.entry)) }
-{
-    match cell {
-        None => may_stand(name, placed),
-        Some(_) => false,
-    }
+    rec.state.number() == state.number()
 }
 
 /// Whether a document stands at a revision number that has a next one, with a token in its queue.
@@ -102,29 +26,78 @@ pub(crate) fn takes_update(doc: &DocCell, revno: i64, token: &Token) -> bool
     doc.revno == revno && revno < i64::MAX && has_token(doc.queue.as_slice(), token)
 }
 
+/// Whether a document stands at a revision number.
+pub(crate) fn is_at(doc: &DocCell, revno: i64) -> bool
+    ensures { result ≡ int_eq doc.now.revno revno }
+{
+    doc.revno == revno
+}
+
+/// Whether an unmarked document stands at a revision number, with a token in its queue.
+pub(crate) fn is_free_doc(doc: &DocCell, revno: i64, token: &Token) -> bool
+    ensures { result ≡ is_free_doc revno token.now doc.now }
+{
+    doc.revno == revno && doc.remove.is_none() && has_token(doc.queue.as_slice(), token)
+}
+
+/// Whether an unmarked stash entry stands at a revision number, with a token in its queue.
+pub(crate) fn is_free_stash(stash: &StashCell, revno: i64, token: &Token) -> bool
+    ensures { result ≡ is_free_stash revno token.now stash.now }
+{
+    stash.revno == revno && stash.insert.is_none() && has_token(stash.queue.as_slice(), token)
+}
+
+/// Whether a name is that of a key without a document, or with one at a smaller number.
+pub(crate) fn is_newer_doc(revno: i64, name: &Name, cell: Option<&Cell>) -> bool
+    ensures { result ≡ is_newer_doc revno name.now (option_copied cell.entry) }
+{
+    match (name, cell) {
+        (Name::Doc(_), None) => true,
+        (Name::Doc(_), Some(Cell::Doc(doc))) => doc.revno < revno,
+        _ => false,
+    }
+}
+
+/// Whether a name is that of a key without a stash entry, or with one of a smaller epoch.
+pub(crate) fn is_newer_stash(revno: i64, name: &Name, cell: Option<&Cell>) -> bool
+    ensures { result ≡ is_newer_stash revno name.now (option_copied cell.entry) }
+{
+    match (name, cell) {
+        (Name::Stash(_), None) => true,
+        (Name::Stash(_), Some(Cell::Stash(stash))) => {
+            stash.revno.unsigned_abs() < revno.unsigned_abs()
+        }
+        _ => false,
+    }
+}
+
+/// Whether a nonce is left at a counter.
+pub(crate) fn has_nonce(counter: u32) -> bool
+    ensures { result ≡ nat_lt counter nonce_limit }
+{
+    counter < u32::MAX
+}
+
+/// Whether the cell that is held under a name is the one to erase.
+pub(crate) fn is_erased(name: &Name, erased: &Cell, held: &Cell) -> bool
+    ensures { result ≡ (may_stand name.now erased.now && same_cell held.now erased.now) }
+{
+    may_stand(name, erased) && held.equals(erased)
+}
+
+/// Whether the cell that is held under a name is the one to replace.
+pub(crate) fn is_replaced(name: &Name, old: &Cell, new: &Cell, held: &Cell) -> bool
+    ensures { result ≡
+        (may_stand name.now old.now && may_stand name.now new.now && same_cell held.now old.now) }
+{
+    may_stand(name, old) && may_stand(name, new) && held.equals(old)
+}
+
 /// Whether a token is in a queue.
 pub(crate) fn has_token(queue: &[Token], token: &Token) -> bool
     ensures { result ≡ has_token token.now queue.now }
 {
     queue.iter().any(|other| same_token(token, other))
-}
-
-fn same_token(a: &Token, b: &Token) -> bool
-    ensures { result ≡ same_token a.now b.now }
-{
-    same_id(&a.id, &b.id) && a.nonce == b.nonce
-}
-
-pub(crate) fn same_id(a: &TxnId, b: &TxnId) -> bool
-    ensures { result ≡ same_id a.now b.now }
-{
-    *a == *b
-}
-
-pub(crate) fn same_state(a: State, b: State) -> bool
-    ensures { result ≡ same_state a b }
-{
-    a.number() == b.number()
 }
 
 /// Whether a cell is of a name's kind, and a record under its own id.

@@ -12,8 +12,8 @@ pub enum Side {
     Stash,
 }
 
-/// Which of a key's two cells owns it: that of the greater epoch, the document on a tie, the only one
-/// where one is there. A cell's epoch is the absolute value of its revision number.
+/// Which of a key's two cells owns it: that of the greater epoch, the document on a tie, the only
+/// one where one is there. A cell's epoch is the absolute value of its revision number.
 pub fn owner(doc: Option<&DocCell>, stash: Option<&StashCell>) -> Side
     ensures { result ≡ owner_of (option_copied doc.entry) (option_copied stash.entry) }
 {

@@ -7,3 +7,4 @@ pub mod ChainSteps
 pub mod EffectLaws
 pub mod OrderLaws
 pub mod WalkLaws
+pub mod SameRecords

@@ -1,5 +1,6 @@
 pub mod Transactions
 pub mod States
+pub mod Same
 pub mod Effects
 pub mod Orders
 pub mod Syntax

@@ -6,6 +6,7 @@
 #![tactic(auto)]
 
 mod entry;
+mod equality;
 mod fault;
 mod keys;
 mod laws;
@@ -18,6 +19,7 @@ mod revnos;
 mod state;
 
 pub use entry::{Entry, Outcome};
+pub use equality::same_record_is_equality;
 pub use fault::{OpFault, OpsFault};
 pub use laws::{
     chains_follow, changes_are_local, numbers_stand, operations_alone, operations_read_back,

@@ -76,7 +76,11 @@ pub call_err : {S T U E : Type 0} (store : Ghosts S) (old new : S) (result : Res
     → result ≡ Err error → OneCall store old new result failed → OneCall {T = U} store old new (Err error) failed
 call_err {S} {T} {U} {E} store old new result error failed is one =
     let o = subst (λ (r : Result T E). OneCall store old new r failed) is one in
-    record { trail = o.trail; counted = tt; counted_err = o.counted_err; later = o.later; fault = λ same. o.fault (ap Err (same_error error failed same)) }
+    record { trail = o.trail; counted = tt; counted_err = o.counted_err; later = o.later; fault = λ same. o.fault (ap Err (same_error error failed same)); still = still_err error failed o.still }
+
+still_err : {T U E : Type 0} {P : Type 0} (error failed : E) → IsErrOf {T = T} (Err error) failed ⊎ P → IsErrOf {T = U} (Err error) failed ⊎ P
+still_err error failed (inl same) = inl (ap Err (same_error error failed same))
+still_err error failed (inr stays) = inr stays
 
 -- a step that is refused for memory before its call
 pub refused_idly : {S T : Type 0} (store : Ghosts S) (s : S)
@@ -87,6 +91,7 @@ refused_idly store s present = record {
   counted_err = inr refl;
   later = omega arith;
   fault = λ fails. absurd (cc fails);
+  still = inr refl;
 }
 
 pub store_refuses : {S : Type 0} (store : Ghosts S) (old : S) (id : TxnId) (at : Name) (change : Edit) (new : S) (error : StepError) → IsOfStore error → IsMissed store old id at change new error

@@ -18,6 +18,8 @@ use Rattle.store_laws.specs.Soundness.{IsSound}
 use Rattle.store_laws.specs.Steps.{IsStep}
 use Rattle.store_laws.specs.View.{look, record_at, doc_at, counter, IsOn}
 use Rattle.store_trait.specs.declared.cell.DocCell.{DocCell}
+use Rattle.store_trait.specs.declared.edit.Edit.{Edit}
+use Rattle.store_trait.specs.declared.edit.Edit.TheVariants as edit
 use Rattle.store_laws.specs.Alone.{IsAlone}
 use Rattle.store_laws.specs.Chains.{IsChainFrom}
 use Rattle.store_laws.specs.Plain.{IsPlain}
@@ -31,10 +33,10 @@ use Rattle.txn_runner.specs.declared.stage.Stage.TheVariants as stage
 use Rattle.txn_runner.specs.declared.waiting.Waiting.{Waiting}
 use Rattle.store_trait.specs.declared.store.Store.{Ghosts}
 
--- ---- the transaction's record, as it is written
+-- ---- the transaction's record, as it is written: with its operations, and what is noted with it
 
 abbrev pub stored : Waiting → State → Option ℕ → Option (List ℤ) → Record
-stored txn state nonce revnos = record { id = txn.id; state = state; info = None; ops = txn.ops; nonce = nonce; revnos = revnos }
+stored txn state nonce revnos = record { id = txn.id; state = state; info = txn.info; ops = txn.ops; nonce = nonce; revnos = revnos }
 
 abbrev pub IsThere : Content → Waiting → State → Option ℕ → Option (List ℤ) → Type 0
 IsThere c txn state nonce revnos = record_at c txn.id ≡ Some (stored txn state nonce revnos)
@@ -67,13 +69,20 @@ abbrev pub settled_state : Outcome → State
 settled_state outcome.Applied = state.Applied
 settled_state outcome.Aborted = state.Aborted
 
--- the transaction came to its end: its record is applied, or aborted, with its operations
+-- the edit of a prepared record that decides its transaction: one that applies takes the numbers that
+-- its operations find
+abbrev pub deciding : Outcome → List ℤ → Edit
+deciding outcome.Applied revnos = edit.Move state.Prepared state.Applying None (Some revnos)
+deciding outcome.Aborted revnos = edit.Move state.Prepared state.Aborting None None
+
+-- the transaction came to its end: its record is applied, or aborted, with its operations and what is
+-- noted with it
 pub record IsSettled (c : Content) (txn : Waiting) (outcome : Outcome) : Type 0 where
   pub rec : Record
   pub there : record_at c txn.id ≡ Some rec
   pub ends : rec.state ≡ settled_state outcome
   pub ops : rec.ops ≡ txn.ops
-  pub info : rec.info ≡ None
+  pub info : rec.info ≡ txn.info
 
 -- ---- what each stage rests on
 

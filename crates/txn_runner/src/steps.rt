@@ -10,14 +10,14 @@ ghost use Rattle.txn_record.specs.Revnos.{has_effect};
 ghost use Rattle.store_laws.specs.View.{record_at};
 ghost use Rattle.txn_runner.specs.Calm.{IsCalm};
 ghost use Rattle.txn_runner.specs.Causes.{AnsweredEdit, EndIsShown, HasCause, IsMissed, IsOfStore, LastShows, ShowsRepeated, drawn_of};
-ghost use Rattle.txn_runner.specs.Settling.{IsWorth, WorksOn, ComesToStage, IsSubmitted, preparing_record};
+ghost use Rattle.txn_runner.specs.Settling.{IsWorth, WorksOn, ComesToStage, IsSubmitted, deciding, preparing_record};
 ghost use Rattle.txn_runner.specs.Built.{is_built, is_built_change, is_update, updates};
 ghost use Rattle.txn_runner.specs.Numbers.{Uses};
 ghost use Rattle.txn_runner.specs.Stages.{steps_left, suits, UsesUpTo};
 
 use crate::assertions::tests_hold;
 use crate::built::{only, update_of};
-use crate::calls::{edit, may_hit, must_hit, read_document};
+use crate::calls::{edit, make_decision, may_hit, must_hit, read_document};
 use crate::error::StepError;
 use crate::stage::Stage;
 use crate::waiting::Waiting;
@@ -26,7 +26,7 @@ use sqlite_items::Items;
 use std::alloc::Global;
 use store_trait::{Edit, Name, Store, counter_in};
 use txn_key::{Token, TxnId};
-use txn_record::{Change, Entry, Op, Outcome, Record, State, has_room};
+use txn_record::{Change, Entry, Op, Outcome, Record, State, copy_info, has_room};
 
 /// The counter of nonces at which none is left.
 const LAST_COUNTER: u32 = u32::MAX;
@@ -50,18 +50,21 @@ pub fn submit<S: Store>(alloc: Global, store: &mut S, txn: &Waiting) -> Result<b
 {
     let rec = preparing(alloc, txn)?;
     let change = Edit::InsertRecord { rec };
-    may_hit(alloc, store, Name::Record(txn.id), change)
+    let hits = may_hit(alloc, store, &Name::Record(txn.id), &change);
+    drop(change);
+    hits
 }
 
-/// The record of a transaction as it is submitted.
+/// The record of a transaction as it is submitted, with what is noted with it.
 fn preparing(alloc: Global, txn: &Waiting) -> Result<Record, OutOfMemory>
     ensures { IfOk result (λ rec. rec ≡ preparing_record txn.now) }
 {
+    let info = copy_info(alloc, &txn.info)?;
     let ops = txn.ops.copy(alloc)?;
     Ok(Record {
         id: txn.id,
         state: State::Preparing,
-        info: None,
+        info,
         ops,
         nonce: None,
         revnos: None,
@@ -245,14 +248,7 @@ fn decide_to_apply<S: Store>(
     ensures cause { IfErr result (HasCause S.Store store.old store.new txn.now.id) }
     ensures call { OneCall S.Store store.old store.new result StepError.StoreFault }
 {
-    let revnos = Items::from_slice(alloc, &[revno])?;
-    let change = Edit::Move {
-        from: State::Prepared,
-        to: State::Applying,
-        nonce: None,
-        revnos: Some(revnos),
-    };
-    record_decision(alloc, store, order, txn, change, Outcome::Applied, &[revno])?;
+    record_decision(alloc, store, order, txn, Outcome::Applied, &[revno])?;
     Ok(after_decision(only(&txn.ops), nonce, revno))
 }
 
@@ -292,13 +288,7 @@ fn decide_to_abort<S: Store>(
     ensures cause { IfErr result (HasCause S.Store store.old store.new txn.now.id) }
     ensures call { OneCall S.Store store.old store.new result StepError.StoreFault }
 {
-    let change = Edit::Move {
-        from: State::Prepared,
-        to: State::Aborting,
-        nonce: None,
-        revnos: None,
-    };
-    record_decision(alloc, store, order, txn, change, Outcome::Aborted, &[])?;
+    record_decision(alloc, store, order, txn, Outcome::Aborted, &[])?;
     Ok(Stage::Abort)
 }
 
@@ -309,24 +299,23 @@ fn record_decision<S: Store>(
     store: &mut S,
     order: &mut Vec<Entry>,
     txn: &Waiting,
-    change: Edit,
     outcome: Outcome,
     revnos: &[i64],
 ) -> Result<(), StepError>
-    ensures made { IsTrue S.tells → OnOk result (S.content store.new ≡ edited (S.content store.old) (Name.Record txn.now.id) change) }
+    ensures made { IsTrue S.tells → OnOk result (S.content store.new ≡ edited (S.content store.old) (Name.Record txn.now.id) (deciding outcome revnos.now)) }
     ensures added { OnOk result (order.new.items ≡ order.old.items
         ++ record { id = txn.now.id; ops = txn.now.ops; outcome = outcome; revnos = revnos.now; at = S.calls store.new } ∷ []) }
     ensures kept { OnErr result (order.new.items ≡ order.old.items) }
-    ensures left { IsTrue S.tells → is_some (hit change (Name.Record txn.now.id) (get (S.content store.old) (Name.Record txn.now.id))) ≡ true →
+    ensures left { IsTrue S.tells → is_some (hit (deciding outcome revnos.now) (Name.Record txn.now.id) (get (S.content store.old) (Name.Record txn.now.id))) ≡ true →
         OnErr result (S.content store.new ≡ S.content store.old) }
-    ensures never { IsTrue S.tells → is_some (hit change (Name.Record txn.now.id) (get (S.content store.old) (Name.Record txn.now.id))) ≡ true →
+    ensures never { IsTrue S.tells → is_some (hit (deciding outcome revnos.now) (Name.Record txn.now.id) (get (S.content store.old) (Name.Record txn.now.id))) ≡ true →
         IfErr result IsOfStore }
-    ensures cause { IfErr result (IsMissed S.Store store.old txn.now.id (Name.Record txn.now.id) change store.new) }
+    ensures cause { IfErr result (IsMissed S.Store store.old txn.now.id (Name.Record txn.now.id) (deciding outcome revnos.now) store.new) }
     ensures call { OneCall S.Store store.old store.new result StepError.StoreFault }
 {
     let mut entry = entry_of(alloc, txn, outcome, revnos)?;
     order.reserve(1)?;
-    must_hit(alloc, store, txn.id, Name::Record(txn.id), change)?;
+    make_decision(alloc, store, txn.id, outcome, revnos)?;
     entry.at = store.calls();
     match order.push(entry) {
         Ok(()) => Ok(()),
@@ -385,7 +374,9 @@ pub fn update<S: Store>(
         token,
         update,
     };
-    may_hit(alloc, store, name, change)?;
+    let hits = may_hit(alloc, store, &name, &change);
+    drop(change);
+    hits?;
     Ok(Stage::Finish)
 }
 

@@ -4,7 +4,7 @@ use Rattle.doc_update.specs.Updates.{updated}
 use Rattle.std.proofs.lemmas.Int.{to_z-of_z}
 use Rattle.store_trait.specs.Edits.{with_body, is_updatable}
 use Rattle.store_trait.specs.declared.cell.DocCell.{DocCell}
-use Rattle.store_trait.proofs.guards.updates_doc.Goals as goal
+use Rattle.store_trait.proofs.hit.updates_doc.Goals as goal
 
 -- where the document takes updates, the edit hits exactly where this one fits
 fits_there : (test fits : Bool) (body : Option Value) (doc : DocCell) → test ≡ true → fits ≡ is_some body → fits ≡ is_some (cond test (option_map (λ body. Some (with_body doc body)) body) None)
