@@ -11,4 +11,3 @@ pub mod GroupSteps
 pub mod GroupedSlices
 pub mod GroupTurn
 pub mod SortedChanges
-pub mod FoundOrdered

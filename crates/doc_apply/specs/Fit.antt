@@ -2,7 +2,6 @@
 use Rattle.std.specs.Prelude.{ℕ, Bool, true, false, ◌&&◌, not, ◌+◌, List, [], ◌∷◌, length, nat_lt, Option, Some, None, is_some, if◌then◌else◌}
 use Rattle.doc_value.specs.declared.value.Value.{Value}
 use Rattle.doc_value.specs.Depth.{nesting}
-use Rattle.doc_value.specs.Order.{is_ordered}
 use Rattle.doc_update.specs.Changes.{Change}
 use Rattle.doc_update.specs.Effects.{effect}
 use Rattle.doc_update.specs.Places.{part_of, is_open}
@@ -49,8 +48,3 @@ change_is_good body change = change_fits body change && not (change_is_deep 90 b
 abbrev pub nests_below : ℕ → Option (Option Value) → Bool
 nests_below limit (Some (Some value)) = nat_lt limit (nesting value)
 nests_below limit _ = false
-
--- what was found, if anything, has its names in order
-abbrev pub is_found_ordered : Option Value → Bool
-is_found_ordered None = true
-is_found_ordered (Some value) = is_ordered value

@@ -3,7 +3,7 @@ ghost use Rattle.doc_update.specs.Updates.{if_body, updated};
 
 use crate::together::after_all;
 use doc_update::{Update, changes_in, fields_of, sort_by_path};
-use doc_value::{MAX_BODY_NESTING, OutOfMemory, Value, is_ordered};
+use doc_value::{Lookup, MAX_BODY_NESTING, OutOfMemory, Value};
 use std::alloc::Global;
 
 /// The body after the update: None exactly where the update doesn't fit it. Body and update are gone
@@ -16,7 +16,7 @@ pub fn apply(alloc: Global, update: &Update, body: &Value) -> Result<Option<Valu
     }
     let mut changes = changes_in(alloc, fields_of(update.source()))?;
     sort_by_path(&mut changes)?;
-    match after_all(alloc, changes.as_slice(), 0, Some(body), is_ordered(body))? {
+    match after_all(alloc, changes.as_slice(), 0, Some(&Lookup::halving(body)))? {
         Some(after) => Ok(if_body(after)),
         None => Ok(None),
     }

@@ -4,34 +4,32 @@ ghost use Rattle.std.specs.List.{list_all, list_any};
 ghost use Rattle.std.specs.Option.{option_copied};
 ghost use Rattle.doc_value.specs.declared.value.Value.{Value as Tree, out-Value, List as Items_of};
 ghost use Rattle.doc_value.specs.Depth.{nesting, deepest};
-ghost use Rattle.doc_value.specs.Order.{is_ordered};
 ghost use Rattle.doc_value.specs.Paths.{parts_of};
 ghost use Rattle.doc_update.specs.Changes.{change_of, changes_in, changes_under};
 ghost use Rattle.doc_update.specs.Effects.{effect, effect_on, effect_on_missing, increased, without_item, pushed_onto, added_to, pulled_from, popped_from};
 ghost use Rattle.doc_update.specs.Places.{is_open, part_of};
-ghost use Rattle.doc_apply.specs.Fit.{located, is_nothing, change_is_good, is_found_ordered, nests_below, reaches_below};
+ghost use Rattle.doc_apply.specs.Fit.{located, is_nothing, change_is_good, nests_below, reaches_below};
 ghost use Rattle.doc_update.specs.Operators.{operator_named};
 ghost use Rattle.doc_update.specs.Updates.{updated};
 
 use crate::effect::{is_among, popped};
 use doc_update::{Operator, Update, fields_of, is_object};
-use doc_value::{Field, MAX_BODY_NESTING, Value, field_of, is_ordered};
+use doc_value::{Field, Lookup, MAX_BODY_NESTING, Value};
 
 /// Whether the update can be made to the body. It takes no memory.
 pub fn fits(update: &Update, body: &Value) -> bool
     ensures { result ≡ is_some (updated update.now body.now) }
 {
     !body.is_deeper_than(MAX_BODY_NESTING)
-        && operators_fit(fields_of(update.source()), body, is_ordered(body))
+        && operators_fit(fields_of(update.source()), &Lookup::halving(body))
 }
 
-fn operators_fit(operators: &[Field], body: &Value, ordered: bool) -> bool
-    requires { ordered ≡ true → is_ordered body.now ≡ true }
+fn operators_fit(operators: &[Field], body: &Lookup) -> bool
     ensures { result ≡ list_all (change_is_good body.now) (changes_in operators.now) }
 {
     for field in operators {
         if let Some(operator) = Operator::named(field.name.as_bytes()) {
-            if !changes_fit(operator, fields_of(&field.value), body, ordered) {
+            if !changes_fit(operator, fields_of(&field.value), body) {
                 return false;
             }
         }
@@ -39,12 +37,11 @@ fn operators_fit(operators: &[Field], body: &Value, ordered: bool) -> bool
     true
 }
 
-fn changes_fit(operator: Operator, fields: &[Field], body: &Value, ordered: bool) -> bool
-    requires { ordered ≡ true → is_ordered body.now ≡ true }
+fn changes_fit(operator: Operator, fields: &[Field], body: &Lookup) -> bool
     ensures { result ≡ list_all (change_is_good body.now) (map (change_of operator) fields.now) }
 {
     for field in fields {
-        if !change_fits(operator, field, body, ordered) {
+        if !change_fits(operator, field, body) {
             return false;
         }
     }
@@ -52,12 +49,11 @@ fn changes_fit(operator: Operator, fields: &[Field], body: &Value, ordered: bool
 }
 
 /// Whether the change alone fits, and puts nothing too deep.
-fn change_fits(operator: Operator, field: &Field, body: &Value, ordered: bool) -> bool
-    requires { ordered ≡ true → is_ordered body.now ≡ true }
+fn change_fits(operator: Operator, field: &Field, body: &Lookup) -> bool
     ensures { result ≡ change_is_good body.now (change_of operator field.now) }
 {
     let depth = count_parts(field.name.as_str());
-    match locate(body, field.name.as_str(), ordered) {
+    match locate(body, field.name.as_str()) {
         Some(found) => fits_found(operator, &field.value, found, depth),
         None => leaves_nothing(operator, None),
     }
@@ -77,36 +73,43 @@ fn count_dots(text: &[u8]) -> usize
 }
 
 /// The field that the path leads to, be it there or missing; None where a parent on the way is no object.
-fn locate<'a>(body: &'a Value, path: &str, ordered: bool) -> Option<Option<&'a Value>>
-    requires { ordered ≡ true → is_ordered body.now ≡ true }
+fn locate<'a>(body: &Lookup<'a>, path: &str) -> Option<Option<&'a Value>>
     ensures { option_map option_copied result ≡ located (parts_of path.now) (Some body.now) }
 {
-    let mut found = Some(body);
+    let mut found = Some(body.copy());
     for part in path.split('.') {
-        if !is_open(found) {
+        if !is_open(found.as_ref()) {
             return None;
         }
-        found = part_of(part.as_bytes(), found, ordered);
+        found = part_of(part.as_bytes(), found.as_ref());
     }
-    Some(found)
+    Some(value_of(found.as_ref()))
 }
 
-fn is_open(found: Option<&Value>) -> bool
+fn is_open(found: Option<&Lookup>) -> bool
     ensures { result ≡ is_open (option_copied found.entry) }
 {
     match found {
-        Some(value) => is_object(value),
+        Some(found) => is_object(found.value()),
         None => true,
     }
 }
 
 /// The field of that name, of an object that was found.
-pub(crate) fn part_of<'a>(part: &[u8], found: Option<&'a Value>, ordered: bool) -> Option<&'a Value>
-    requires { ordered ≡ true → is_found_ordered (option_copied found) ≡ true }
-    ensures { option_copied result ≡ part_of part.now (option_copied found.entry) }
+pub(crate) fn part_of<'a>(part: &[u8], found: Option<&Lookup<'a>>) -> Option<Lookup<'a>>
+    ensures { result ≡ part_of part.now (option_copied found.entry) }
 {
     match found {
-        Some(value) => field_of(value, part, ordered),
+        Some(found) => found.field(part),
+        None => None,
+    }
+}
+
+pub(crate) fn value_of<'a>(found: Option<&Lookup<'a>>) -> Option<&'a Value>
+    ensures { option_copied result ≡ option_copied found.entry }
+{
+    match found {
+        Some(found) => Some(found.value()),
         None => None,
     }
 }

@@ -4,38 +4,35 @@ ghost use Rattle.std.specs.Option.{option_copied};
 ghost use Rattle.std.specs.Cmp.Lexicographic.{slice_cmp};
 ghost use Rattle.std.specs.Ordering.{nat_cmp};
 ghost use Rattle.doc_update.specs.Conflicts.{are_apart};
-ghost use Rattle.doc_apply.specs.Fit.{is_found_ordered};
 ghost use Rattle.doc_apply.specs.Groups.{first_head, count_head, heads_rise, precedes_head, first_part, has_head, change_below};
 ghost use Rattle.doc_update.specs.Updates.{after_changes};
 
-use crate::fitting::part_of;
+use crate::fitting::{part_of, value_of};
 use crate::place::changed;
 use crate::put::{Put, place_all};
 use doc_update::Change;
-use doc_value::{OutOfMemory, Text, Value};
+use doc_value::{Lookup, OutOfMemory, Text, Value};
 use std::alloc::Global;
 use std::cmp::Ordering;
 
 /// What was found after the changes, whose paths go on at that depth: None where one doesn't fit. Changes
 /// in order of their paths are taken by the part that their paths go on with, so that what was found is
-/// copied once; others would be taken in turn. `ordered` tells that its names are known to be in order.
+/// copied once; others would be taken in turn.
 pub(crate) fn after_all(
     alloc: Global,
     changes: &[Change],
     depth: usize,
-    found: Option<&Value>,
-    ordered: bool,
+    found: Option<&Lookup>,
 ) -> Result<Option<Option<Value>>, OutOfMemory>
-    requires apart { are_apart (map (change_below depth) changes.now) ≡ true }
-    requires names { ordered ≡ true → is_found_ordered (option_copied found) ≡ true }
+    requires { are_apart (map (change_below depth) changes.now) ≡ true }
     ensures { IfOk result (λ after. after ≡
         after_changes (map (change_below depth) changes.now) (option_copied found.entry)) }
 {
     if let [change] = changes {
-        return changed(alloc, change, parts_below(change, depth), found);
+        return changed(alloc, change, parts_below(change, depth), value_of(found));
     }
     if !heads_rise(changes, depth) {
-        return after_each(alloc, changes, depth, found);
+        return after_each(alloc, changes, depth, value_of(found));
     }
     let mut puts = Vec::new(alloc);
     let mut start = 0;
@@ -47,15 +44,15 @@ pub(crate) fn after_all(
         let count = count_head(rest, depth, part);
         let (group, _) = rest.split_at(count);
         let next = depth_below(&changes[start], depth);
-        let below = part_of(part.as_bytes(), found, ordered);
-        let Some(after) = after_all(alloc, group, next, below, ordered)? else {
+        let below = part_of(part.as_bytes(), found);
+        let Some(after) = after_all(alloc, group, next, below.as_ref())? else {
             return Ok(None);
         };
         let part = part.copy(alloc)?;
         puts.push(Put { part, after })?;
         start += count;
     }
-    place_all(alloc, puts, found)
+    place_all(alloc, puts, value_of(found))
 }
 
 /// The same, one change after another.

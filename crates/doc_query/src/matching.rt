@@ -1,17 +1,13 @@
 //! Whether a query holds on a body. Nothing here takes memory.
-//!
-//! `ordered` says that the body's names are known to be in order, so that each name that is asked for is
-//! found by halving.
-ghost use Rattle.std.specs.Prelude.{◌≡◌, map, true};
+ghost use Rattle.std.specs.Prelude.{◌≡◌, map};
 ghost use Rattle.doc_value.specs.Fields.{judged};
-ghost use Rattle.doc_value.specs.Order.{is_ordered};
 ghost use Rattle.doc_query.specs.Operators.{logic_named};
 ghost use Rattle.doc_query.specs.Meaning.{holds, holds_as, every, some, logic_holds, name_holds, names_hold, every_holds, some_holds, beside_meaning};
 
 use crate::condition::is_met;
 use crate::operator::{Logic, is_operator};
 use crate::query::Query;
-use doc_value::{Field, Text, Value, get_by_text, is_ordered};
+use doc_value::{Field, Lookup, Text, Value};
 
 /// From so many names on it pays to learn first whether a body's names are in order.
 const MANY_NAMES: u64 = 16;
@@ -22,8 +18,11 @@ pub fn matches(query: &Query, body: &Value) -> bool
     ensures { result ≡ holds query.now body.now }
 {
     let query = query.source();
-    let ordered = count_names(query) >= MANY_NAMES && is_ordered(body);
-    query_holds(query, body, ordered)
+    if count_names(query) >= MANY_NAMES {
+        query_holds(query, &Lookup::halving(body))
+    } else {
+        query_holds(query, &Lookup::in_turn(body))
+    }
 }
 
 /// How many names stand in a value, at every depth.
@@ -59,23 +58,21 @@ fn count_in_fields(fields: &[Field]) -> u64 {
 
 #[cycle(meaning)]
 #[tactic(auto, using(crate::proofs::Levels::holds_as_level))]
-fn query_holds(query: &Value, body: &Value, ordered: bool) -> bool
-    requires { ordered ≡ true → is_ordered body.now ≡ true }
+fn query_holds(query: &Value, body: &Lookup) -> bool
     ensures { result ≡ holds query.now body.now }
 {
     match query {
-        Value::Object(fields) => each_name_holds(fields.as_slice(), body, ordered),
+        Value::Object(fields) => each_name_holds(fields.as_slice(), body),
         _ => false,
     }
 }
 
 #[cycle(meaning)]
-fn each_name_holds(fields: &[Field], body: &Value, ordered: bool) -> bool
-    requires { ordered ≡ true → is_ordered body.now ≡ true }
+fn each_name_holds(fields: &[Field], body: &Lookup) -> bool
     ensures { result ≡ names_hold (map (judged beside_meaning) fields.now) body.now }
 {
     for field in fields {
-        if !named_holds(&field.name, &field.value, body, ordered) {
+        if !named_holds(&field.name, &field.value, body) {
             return false;
         }
     }
@@ -83,49 +80,45 @@ fn each_name_holds(fields: &[Field], body: &Value, ordered: bool) -> bool
 }
 
 #[cycle(meaning)]
-fn named_holds(name: &Text, value: &Value, body: &Value, ordered: bool) -> bool
-    requires { ordered ≡ true → is_ordered body.now ≡ true }
+fn named_holds(name: &Text, value: &Value, body: &Lookup) -> bool
     ensures { result ≡ name_holds name.now value.now (holds_as value.now) body.now }
 {
     if is_operator(name.as_bytes()) {
-        joined_hold(name.as_bytes(), value, body, ordered)
+        joined_hold(name.as_bytes(), value, body)
     } else {
-        is_met(value, get_by_text(body, name.as_str(), ordered))
+        is_met(value, body.get(name.as_str()))
     }
 }
 
 #[cycle(meaning)]
-fn joined_hold(name: &[u8], queries: &Value, body: &Value, ordered: bool) -> bool
-    requires { ordered ≡ true → is_ordered body.now ≡ true }
+fn joined_hold(name: &[u8], queries: &Value, body: &Lookup) -> bool
     ensures { result ≡ logic_holds (logic_named name.now) (holds_as queries.now) body.now }
 {
     match Logic::read(name) {
         None => false,
-        Some(Logic::And) => all_hold(queries, body, ordered),
-        Some(Logic::Or) => some_hold(queries, body, ordered),
-        Some(Logic::Nor) => !some_hold(queries, body, ordered),
+        Some(Logic::And) => all_hold(queries, body),
+        Some(Logic::Or) => some_hold(queries, body),
+        Some(Logic::Nor) => !some_hold(queries, body),
     }
 }
 
 #[cycle(meaning)]
 #[tactic(auto, using(crate::proofs::Levels::holds_as_level))]
-fn all_hold(queries: &Value, body: &Value, ordered: bool) -> bool
-    requires { ordered ≡ true → is_ordered body.now ≡ true }
+fn all_hold(queries: &Value, body: &Lookup) -> bool
     ensures { result ≡ holds_as queries.now every body.now }
 {
     match queries {
-        Value::List(queries) => each_holds(queries.as_slice(), body, ordered),
+        Value::List(queries) => each_holds(queries.as_slice(), body),
         _ => false,
     }
 }
 
 #[cycle(meaning)]
-fn each_holds(queries: &[Value], body: &Value, ordered: bool) -> bool
-    requires { ordered ≡ true → is_ordered body.now ≡ true }
+fn each_holds(queries: &[Value], body: &Lookup) -> bool
     ensures { result ≡ every_holds (map beside_meaning queries.now) body.now }
 {
     for query in queries {
-        if !query_holds(query, body, ordered) {
+        if !query_holds(query, body) {
             return false;
         }
     }
@@ -134,23 +127,21 @@ fn each_holds(queries: &[Value], body: &Value, ordered: bool) -> bool
 
 #[cycle(meaning)]
 #[tactic(auto, using(crate::proofs::Levels::holds_as_level))]
-fn some_hold(queries: &Value, body: &Value, ordered: bool) -> bool
-    requires { ordered ≡ true → is_ordered body.now ≡ true }
+fn some_hold(queries: &Value, body: &Lookup) -> bool
     ensures { result ≡ holds_as queries.now some body.now }
 {
     match queries {
-        Value::List(queries) => any_holds(queries.as_slice(), body, ordered),
+        Value::List(queries) => any_holds(queries.as_slice(), body),
         _ => false,
     }
 }
 
 #[cycle(meaning)]
-fn any_holds(queries: &[Value], body: &Value, ordered: bool) -> bool
-    requires { ordered ≡ true → is_ordered body.now ≡ true }
+fn any_holds(queries: &[Value], body: &Lookup) -> bool
     ensures { result ≡ some_holds (map beside_meaning queries.now) body.now }
 {
     for query in queries {
-        if query_holds(query, body, ordered) {
+        if query_holds(query, body) {
             return true;
         }
     }

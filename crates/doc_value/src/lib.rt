@@ -26,7 +26,7 @@ pub use body::{MAX_BODY_NESTING, read_body};
 pub use doc_id::DocId;
 pub use fault::{BodyFault, PathFault, ValueFault};
 pub use laws::{reads_back, same_is_equality};
-pub use lookup::{field_of, get, get_by_text};
+pub use lookup::{Lookup, get};
 pub use ordered::is_ordered;
 pub use path::{Path, is_path, split_parts};
 pub use print::{print_value, push_text, push_value};

@@ -1,5 +1,4 @@
-//! What paths and names lead to. Where the names of a value are known to be in order, a field is found by
-//! halving, else by going through the fields.
+//! What paths and names lead to.
 ghost use Rattle.std.specs.Prelude.{◌≡◌, map, true};
 ghost use Rattle.std.specs.Option.{option_copied};
 ghost use Rattle.doc_value.specs.Fields.{judged};
@@ -7,9 +6,11 @@ ghost use Rattle.doc_value.specs.Order.{is_ordered, fields_ordered};
 ghost use Rattle.doc_value.specs.Paths.{field_named, field_in, get_at, parts_of};
 ghost use Rattle.doc_value.specs.declared.value.Value.{out-Value};
 
+use crate::ordered::is_ordered;
 use crate::path::Path;
 use crate::value::{Field, Value};
 use std::cmp::Ordering;
+use std::marker::Model;
 
 /// The value that the path leads to, from object to object: none where a part isn't there or its
 /// parent is no object.
@@ -23,28 +24,95 @@ pub fn get<'a>(value: &'a Value, path: &Path) -> Option<&'a Value>
     Some(found)
 }
 
-/// What the path of that text leads to, by the parts between its dots. `ordered` says that the value's names
-/// are known to be in order: then each part is found by halving. It takes no memory.
-pub fn get_by_text<'a>(value: &'a Value, path: &str, ordered: bool) -> Option<&'a Value>
-    requires { ordered ≡ true → is_ordered value.now ≡ true }
-    ensures { option_copied result ≡ get_at (parts_of path.now) value.now }
-{
-    let mut found = value;
-    for part in path.split('.') {
-        found = field_of(found, part.as_bytes(), ordered)?;
-    }
-    Some(found)
+/// A value to look fields up in. Where the names of the value are known to be in order, here and in what
+/// is found in it, a field is found by halving, else by going through the fields. Contracts see the value.
+#[derive(Drop)]
+pub struct Lookup<'a> {
+    value: &'a Value,
+    in_order: bool,
 }
 
-/// The field of that name, of an object, as `Value::field` tells it. Where the names are known to be in order
-/// it is found by halving.
-pub fn field_of<'a>(value: &'a Value, name: &[u8], ordered: bool) -> Option<&'a Value>
-    requires { ordered ≡ true → is_ordered value.now ≡ true }
-    ensures { option_copied result ≡ field_in name.now (out-Value value.now) }
-{
-    match value {
-        Value::Object(fields) if ordered => find(fields.as_slice(), name),
-        _ => value.field(name),
+impl<'a> Model for Lookup<'a> {
+    ghost use Rattle.std.specs.Prelude.{◌≡◌, true};
+    ghost use Rattle.doc_value.specs.declared.value.Value.{Value as Tree};
+    ghost use Rattle.doc_value.specs.contracts.value.Value as tree;
+    ghost use Rattle.doc_value.specs.Order.{is_ordered};
+
+    ghost Value = { Tree };
+
+    ghost coded = { tree.the_row.coded };
+
+    ghost view = { λ l. l.value.now };
+
+    ghost invariant = { λ l. l.in_order ≡ true → is_ordered l.value.now ≡ true };
+}
+
+impl<'a> Lookup<'a> {
+    /// By going through the fields, which asks for no pass over the value first.
+    pub fn in_turn(value: &'a Value) -> Lookup<'a>
+        ensures { result ≡ value.now }
+    {
+        Lookup {
+            value,
+            in_order: false,
+        }
+    }
+
+    /// By halving, where one pass over the value tells that its names are in order.
+    pub fn halving(value: &'a Value) -> Lookup<'a>
+        ensures { result ≡ value.now }
+    {
+        Lookup {
+            value,
+            in_order: is_ordered(value),
+        }
+    }
+
+    /// The same again.
+    pub fn copy(&self) -> Lookup<'a>
+        ensures { result ≡ self.now }
+    {
+        Lookup {
+            value: self.value,
+            in_order: self.in_order,
+        }
+    }
+
+    pub fn value(&self) -> &'a Value
+        ensures { result.now ≡ self.now }
+    {
+        self.value
+    }
+
+    /// The field of that name, of an object, as `Value::field` tells it.
+    pub fn field(&self, name: &[u8]) -> Option<Lookup<'a>>
+        ensures { result ≡ field_in name.now (out-Value self.now) }
+    {
+        let value = self.find(name)?;
+        Some(Lookup {
+            value,
+            in_order: self.in_order,
+        })
+    }
+
+    fn find(&self, name: &[u8]) -> Option<&'a Value>
+        ensures { option_copied result ≡ field_in name.now (out-Value self.now) }
+    {
+        match self.value {
+            Value::Object(fields) if self.in_order => find(fields.as_slice(), name),
+            value => value.field(name),
+        }
+    }
+
+    /// What the path of that text leads to, by the parts between its dots. It takes no memory.
+    pub fn get(&self, path: &str) -> Option<&'a Value>
+        ensures { option_copied result ≡ get_at (parts_of path.now) self.now }
+    {
+        let mut found = self.copy();
+        for part in path.split('.') {
+            found = found.field(part.as_bytes())?;
+        }
+        Some(found.value())
     }
 }
 

@@ -1,7 +1,7 @@
 //! Paths, and the fields that paths and names lead to.
 use doc_value::{
-    Named, OutOfMemory, Path, PathFault, Text, Value, field_of, get, get_by_text, is_ordered,
-    is_path, print_value, read_value,
+    Lookup, Named, OutOfMemory, Path, PathFault, Text, Value, get, is_ordered, is_path,
+    print_value, read_value,
 };
 use sqlite_items::Items;
 use std::alloc::Global;
@@ -124,8 +124,8 @@ fn is_shown(alloc: Global, found: Option<&Value>, expected: &[u8]) -> Result<boo
 /// Whether the path leads to what is expected, by its parts and by its text.
 fn leads_to(alloc: Global, value: &Value, text: &str, expected: &[u8]) -> Result<bool, Fail> {
     let path = Path::read(alloc, text.as_bytes()).ok().ok_or("no path")?;
-    let halved = get_by_text(value, text, is_ordered(value));
-    let in_turn = get_by_text(value, text, false);
+    let halved = Lookup::halving(value).get(text);
+    let in_turn = Lookup::in_turn(value).get(text);
     Ok(
         is_shown(alloc, get(value, &path), expected)?
             && is_shown(alloc, halved, expected)?
@@ -156,7 +156,7 @@ fn object(alloc: Global, names: &str) -> Result<Value, OutOfMemory> {
 fn is_order_told(alloc: Global, names: &str, ordered: bool) -> Result<bool, OutOfMemory> {
     let object = object(alloc, names)?;
     let told = is_ordered(&object);
-    Ok(told == ordered && field_of(&object, b"a", told).is_some())
+    Ok(told == ordered && Lookup::halving(&object).field(b"a").is_some())
 }
 
 #[test]

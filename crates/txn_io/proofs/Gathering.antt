@@ -1,4 +1,4 @@
-use Rattle.std.proofs.Common.{◌≡◌, ◌+◌, ◌++◌, ℕ, List, [], Some, None, Err, IsTrue, length, take, drop, length-append, length-take, subst, sym, ap, ◌∙◌, ◌≤◌, inl, inr, arith, add-one, refl}
+use Rattle.std.proofs.Common.{◌≡◌, ◌+◌, ◌++◌, ℕ, List, [], Some, None, Err, IsTrue, length, take, drop, length-append, length-take, subst, sym, ap, ◌∙◌, arith, add-one, refl}
 use Rattle.std.proofs.Math.Nat.{min-eq_left}
 use Rattle.txn_io.specs.Faults.{Rose}
 use Rattle.txn_io.specs.Lines.{IsPartTaken, line_of, line_cost, limit_passed, reading, unless_passed, first_line}
@@ -81,9 +81,9 @@ refused_there source old now script taken line ahead rest left TooLong so_far wh
 refused_there source old now script taken line ahead rest left ScriptTooLong so_far whole same why = λ told. read_so _ taken _ line (ahead ++ rest) ScriptTooLong (subst (IsSoFar script.left line) (sym (whole told)) (so_far told)) same (why rest)
 refused_there source old now script taken line ahead rest left OutOfMemory so_far whole same why = tt
 
--- a count that rose later rose
-pub rose_later : (old now new : ℕ) → old ≤ now → Rose now new → Rose old new
-rose_later old now new le rose = elim rose as (λ _. Rose old new) [ inl more ↦ inl (omega arith) | inr last ↦ inr last ]
+-- a count that rose from where it stayed rose
+pub rose_since : (old now new : ℕ) → now ≡ old → Rose now new → Rose old new
+rose_since old now new same rose = subst (λ n. Rose n new) same rose
 
 -- bytes that are taken where all before were used are those that were left
 pub filled : {S : Type 0} (rest : S → List ℕ) (ahead taken later : List ℕ) (source fed now : S) → later ≡ taken → now ≡ fed → taken ++ rest fed ≡ rest source → ahead ≡ [] → later ++ rest now ≡ ahead ++ rest source

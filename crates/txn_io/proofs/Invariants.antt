@@ -9,7 +9,7 @@ pub record IsPouring {K : Type 0} (out : sink.Ghosts K) (old now : K) (piece : L
     : Type 0 where
   pub within : done ≤ length piece
   pub put : IsTrue out.tells → out.written now ≡ out.written old ++ take done piece
-  pub later : out.faults old ≤ out.faults now
+  pub same : out.faults now ≡ out.faults old
 
 -- the bytes of the line so far and those left are the whole input
 pub record IsSoFar (input begun left : List ℕ) : Type 0 where
@@ -24,4 +24,4 @@ pub record IsGathering {S : Type 0} (from : source.Ghosts S) (old now : S) (scri
   pub so_far : IsTrue from.tells → IsSoFar script.left line left.left
   pub taken_is : left.taken ≡ script.taken
   pub within : limit_passed left.taken (length line) (length line) ≡ None
-  pub later : from.faults old ≤ from.faults now
+  pub same : from.faults now ≡ from.faults old

@@ -1,6 +1,7 @@
 ghost use Rattle.std.specs.Prelude.{◌≡◌, ◌<◌, ◌≤◌, ◌+◌, ◌==◌, [], length, option_map, IfOk, IfErr, IsSome, OnOk, IsTrue, MatchResult, true, false};
 ghost use Rattle.std.specs.List.{position};
-ghost use Rattle.txn_io.specs.declared.lines.LineFault.TheVariants.{OutOfMemory};
+ghost use Rattle.txn_io.specs.declared.lines.LineFault.TheVariants.{OutOfMemory, ReadFault};
+ghost use Rattle.txn_io.specs.Faults.{StaysUnless};
 ghost use Rattle.txn_io.specs.LineParts.{Ends, GoesOn, IsUngathered};
 ghost use Rattle.txn_io.specs.Lines.{LinesView, limit_passed};
 ghost use Rattle.txn_io.specs.Unread.{HasRead, IsRefused, unread, unread_behind};
@@ -88,7 +89,7 @@ impl Lines {
         ensures standing { MatchResult result
             (λ _. (self.old.fault ≡ None) × (self.new.fault ≡ None))
             (λ fault. self.new.fault ≡ Some fault) }
-        ensures kept { S.faults source.old ≤ S.faults source.new }
+        ensures kept { StaysUnless ReadFault (S.faults source.old) (S.faults source.new) result }
         ensures more { IfOk result (λ line. IsSome line → self.old.taken < self.new.taken) }
         ensures within { self.new.taken ≤ 268435456 }
     {
@@ -117,7 +118,7 @@ fn read_line<S: Source>(
         (option_map (λ bytes. bytes.items) line)) }
     ensures refused { IfErr result (IsRefused S.Source source.old source.new
         (unread_behind S.Source taken.old ahead.old source.old)) }
-    ensures kept { S.faults source.old ≤ S.faults source.new }
+    ensures kept { StaysUnless ReadFault (S.faults source.old) (S.faults source.new) result }
     ensures more { IfOk result (λ line. IsSome line → taken.old < taken.new) }
     ensures within { taken.new ≤ 268435456 }
 {

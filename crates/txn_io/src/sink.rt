@@ -16,7 +16,8 @@ pub trait Sink {
 
     /// Appends the first bytes of a piece and answers their number.
     ///
-    /// The number is 0 only for an empty piece. A failed call appends nothing.
+    /// The number is 0 only for an empty piece. A failed call appends nothing. No other
+    /// call counts as a fault.
     fn put(&mut self, bytes: &[u8]) -> Result<usize, Failed>
         ensures fits { IfOk result (λ n. n ≤ length bytes.now) }
         ensures some { result ≡ Ok 0 → bytes.now ≡ [] }

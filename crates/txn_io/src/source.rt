@@ -19,6 +19,7 @@ pub trait Source {
     /// Puts the next bytes at the front of `into` and answers their number.
     ///
     /// The number is 0 for a non-empty `into` only at the end. A failed call takes nothing.
+    /// No other call counts as a fault.
     fn take(&mut self, into: &mut [u8]) -> Result<usize, Failed>
         ensures fits { IfOk result (λ n. n ≤ length into.old) }
         ensures bytes { IsTrue tells → IfOk result

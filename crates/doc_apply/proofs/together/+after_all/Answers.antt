@@ -2,7 +2,6 @@ use Rattle.std.proofs.Common.{◌≡◌, ℕ, ◌+◌, ◌-◌, ◌<◌, ◌≤�
 use Rattle.std.specs.Option.{option_copied}
 use Rattle.doc_value.specs.declared.value.Value.{Value}
 use Rattle.doc_update.specs.Conflicts.{are_apart}
-use Rattle.doc_apply.specs.Fit.{is_found_ordered}
 use Rattle.doc_apply.specs.Groups.{first_head, count_head, heads_rise, change_below}
 use Rattle.doc_update.specs.Places.{part_of}
 use Rattle.doc_apply.specs.Puts.{placed_all}
@@ -11,7 +10,6 @@ use Rattle.doc_update.specs.declared.change.Change.{Change as Listed}
 use Rattle.doc_apply.specs.declared.put.Put.{Put}
 use Rattle.doc_apply.proofs.GroupTurn.{left_at, IsReady, group_apart, turn_unfit, turn_put, goes_on}
 use Rattle.doc_apply.proofs.Grouping.{longest, puts_before}
-use Rattle.doc_apply.proofs.FoundOrdered.{part-ordered}
 use Rattle.doc_apply.proofs.together.+after_all.Goals as goal
 
 -- the slices of a turn, as parts of all changes
@@ -40,8 +38,7 @@ after_all-requires t c =
     let group : c.split_at-in-loop-start.result.0.now ≡ take k (drop s changes) = c.split_at-in-loop-start.ensures.front ∙ ap (take k) back in
     let falls : longest c.split_at-in-loop-start.result.0.now - c.depth_below-next.result < longest changes - d = subst (λ n. longest c.split_at-in-loop-start.result.0.now - n < longest changes - d) (sym next) (subst (λ (g : List Listed). longest g - (d + 1) < longest changes - d) (sym group) (on.falls)) in
     let apart = ap₂ (λ (n : ℕ) (g : List Listed). are_apart (map (change_below n) g)) next group ∙ group_apart d s k changes c.loop-start.puts.items name at in
-    let names : c.args.ordered ≡ true → is_found_ordered (option_copied c.part_of-below.result) ≡ true = λ h. ap is_found_ordered c.part_of-below.ensures ∙ part-ordered c.as_bytes.result.now (option_copied c.args.found) (c.requires.names h) in
-    (omega (arith, falls), (apart, names))
+    (omega (arith, falls), apart)
 
 pub returns-in_default-2 : goal.returns-in_default-2
 returns-in_default-2 t c =
@@ -55,7 +52,7 @@ returns-in_default-2 t c =
     let at = ready d s k changes c.split_at.result.1.now c.loop-start.puts.items name back (c.in-Some.ensures) (c.count_head-count.ensures.count) (c.loop-start.invariant.apart) (c.loop-start.invariant.rise) (c.loop-start.invariant.before) in
     let on = goes_on d s k changes c.index-changes-start.result name (omega arith) c.index-changes-start.is (at.head) in
     let group : c.split_at-in-loop-start.result.0.now ≡ take k (drop s changes) = c.split_at-in-loop-start.ensures.front ∙ ap (take k) back in
-    let below = made d k c.depth_below-next.result (drop s changes) c.split_at-in-loop-start.result.0.now (part_of name found) (option_copied c.part_of-below.result) c.in_ok-after.field-0 (c.depth_below-next.ensures (on.deep)) group (c.part_of-below.ensures ∙ ap (λ (n : List ℕ). part_of n found) c.as_bytes.ensures.value) (c.in_ok-after.ensures) in
+    let below = made d k c.depth_below-next.result (drop s changes) c.split_at-in-loop-start.result.0.now (part_of name found) (option_copied c.as_ref.result) c.in_ok-after.field-0 (c.depth_below-next.ensures (on.deep)) group (c.as_ref.ensures.value ∙ c.part_of-below.ensures ∙ ap (λ (n : List ℕ). part_of n found) c.as_bytes.ensures.value) (c.in_ok-after.ensures) in
     sym (turn_unfit d s k changes c.loop-start.puts.items name found at (below ∙ c.in_default-2.is)) ∙ c.loop-start.invariant.all
 
 pub loop-start-preserved : goal.loop-start-preserved
@@ -71,7 +68,7 @@ loop-start-preserved t c =
     let at = ready d s k changes c.split_at.result.1.now puts name back (c.in-Some.ensures) (c.count_head-count.ensures.count) (c.loop-start.invariant.apart) (c.loop-start.invariant.rise) (c.loop-start.invariant.before) in
     let on = goes_on d s k changes c.index-changes-start.result name (omega arith) c.index-changes-start.is (at.head) in
     let group : c.split_at-in-loop-start.result.0.now ≡ take k (drop s changes) = c.split_at-in-loop-start.ensures.front ∙ ap (take k) back in
-    let below = made d k c.depth_below-next.result (drop s changes) c.split_at-in-loop-start.result.0.now (part_of name found) (option_copied c.part_of-below.result) c.in_ok-after.field-0 (c.depth_below-next.ensures (on.deep)) group (c.part_of-below.ensures ∙ ap (λ (n : List ℕ). part_of n found) c.as_bytes.ensures.value) (c.in_ok-after.ensures) in
+    let below = made d k c.depth_below-next.result (drop s changes) c.split_at-in-loop-start.result.0.now (part_of name found) (option_copied c.as_ref.result) c.in_ok-after.field-0 (c.depth_below-next.ensures (on.deep)) group (c.as_ref.ensures.value ∙ c.part_of-below.ensures ∙ ap (λ (n : List ℕ). part_of n found) c.as_bytes.ensures.value) (c.in_ok-after.ensures) in
     let turned = turn_put d s k changes puts name found c.in-Some-2.after at (below ∙ c.in-Some-2.is) in
     let pushed : c.push.new.self.items ≡ puts ++ record { part = name; after = c.in-Some-2.after } ∷ [] =
     c.in_ok-push.ensures.items ∙ ap (λ (n : List ℕ). puts ++ record { part = n; after = c.in-Some-2.after } ∷ []) c.in_ok-part.ensures in

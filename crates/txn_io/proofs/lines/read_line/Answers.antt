@@ -1,13 +1,13 @@
 use Rattle.std.proofs.Common.{ap, length, rules, sym, ◌∙◌, ◌≡◌, ◌++◌, IsTrue}
 use Rattle.std.proofs.lemmas.List.{nil_from_length}
 use Rattle.std.proofs.lemmas.Result.{err_from_is_err_and}
-use Rattle.txn_io.proofs.Gathering.{none_lost, refused_there, rose_later, filled, unfilled}
+use Rattle.txn_io.proofs.Gathering.{none_lost, refused_there, rose_since, filled, unfilled}
 use Rattle.txn_io.proofs.lines.read_line.Goals as goal
 use Rattle.txn_io.proofs.lines.read_line.Goals.{then-is_empty+in-Ok, else-is_empty}
 
 pub returns-in-Err-clause-refused : goal.returns-in-Err-clause-refused
 returns-in-Err-clause-refused g c = record {
-  rose = rose_later _ _ _ c.loop-ahead.invariant.later c.in-Err.ensures.cause.rose;
+  rose = rose_since _ _ _ c.loop-ahead.invariant.same c.in-Err.ensures.cause.rose;
   part = λ told. none_lost _ _ c.loop-ahead.ahead _ c.fill.new.self _ (c.loop-ahead.invariant.so_far told) (nil_from_length _ (ap length (sym c.bytes.ensures) ∙ (search rules))) (c.fill.ensures.bytes told) c.in-Err.ensures.err;
 }
 
