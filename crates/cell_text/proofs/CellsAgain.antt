@@ -6,10 +6,13 @@ use Rattle.std.specs.Str.{bytes_eq}
 use Rattle.std.proofs.lemmas.Slice.Eq.{bytes_eq-Decides}
 use Rattle.doc_value.specs.Bodies.{body_in}
 use Rattle.doc_value.specs.Paths.{field_in, field_named}
+use Rattle.doc_value.specs.Readable.{IsReadable}
 use Rattle.doc_value.specs.declared.fault.BodyFault.{BodyFault}
+use Rattle.doc_value.specs.declared.fault.ValueFault.{ValueFault}
 use Rattle.doc_value.specs.declared.value.Named.{Named as Field}
 use Rattle.doc_value.specs.declared.value.Value.{Value, Int, Text, Object, out-Value}
 use Rattle.doc_value.specs.declared.value.Value.TheOpen.{Value-F}
+use Rattle.doc_value.proofs.RoundTrip.{reads_back}
 use Rattle.txn_key.specs.Ids.{id_of, id_text}
 use Rattle.txn_key.specs.declared.key.Key.{Key}
 use Rattle.txn_record.specs.States.{state_number}
@@ -25,8 +28,8 @@ use Rattle.store_trait.specs.declared.name.Name.TheVariants as name
 use Rattle.cell_text.specs.Fields.{field, fields_in, has_only, with_field}
 use Rattle.cell_text.specs.Parts.{text_in, needed, state_in, number_in, ops_there, key_object_in, queue_in, revno_in, mark_in, nonce_in, revnos_in, info_in}
 use Rattle.cell_text.specs.Storable.{IsRecord, IsDocument, IsEntry, IsStorable, StoredUnder}
-use Rattle.cell_text.specs.Syntax.{cell_in, cell_of_fields, doc_in, doc_key_in, doc_under, doc_with, is_doc_kind, is_own_name, is_record_name, is_stash_name, named_doc, named_nonce, named_record, named_stash, nonce_of_fields, of_kind_in, record_in, record_with, stash_cell_in, stash_in, stash_with, without_own}
-use Rattle.cell_text.specs.Values.{cell_value, doc_fields, key_value, mark_value, nonce_fields, nonce_value, of_kind, queue_value, record_fields, revno_value, revnos_value, stash_fields, value_under}
+use Rattle.cell_text.specs.Syntax.{cell_in, cell_of_fields, cell_of_line, doc_in, doc_key_in, doc_under, doc_with, is_doc_kind, is_own_name, is_record_name, is_stash_name, named_doc, named_nonce, named_record, named_stash, nonce_of_fields, of_kind_in, record_in, record_with, stash_cell_in, stash_in, stash_with, without_own}
+use Rattle.cell_text.specs.Values.{cell_text, cell_value, doc_fields, key_value, mark_value, nonce_fields, nonce_value, of_kind, queue_value, record_fields, revno_value, revnos_value, stash_fields, value_under}
 use Rattle.cell_text.proofs.BodiesAgain.{Bodied, bodied}
 use Rattle.cell_text.proofs.FieldsAgain.{Fields, found_with, found_without, have_no_own, is_other, others_are_all, others_with, own_is_absent}
 use Rattle.cell_text.proofs.PartsAgain.{counter_again, id_again, info_again, key_again, key_object_again, mark_again, nonce_again, number_again, object_layer, ops_again_there, queue_again, revno_again, revnos_again, state_again, text_layer}
@@ -103,7 +106,7 @@ entry_again key stash is =
     then option_and_then (λ key. named_stash key (stash_with (needed number_in (at.revno_there j)) (queue_in (at.queue_there j)) (mark_in (at.insert_there j))))
     (needed key_object_in (at.id_there j)) else None)
     ∙ (λ j. option_and_then (λ key. named_stash key (stash_with (number_again stash.revno j) (queue_again stash.queue is.queue j) (mark_again stash.insert is.insert j)))
-    (key_object_again key is.key j))
+    (key_object_again key is.names j))
 
 -- ---- a document
 
@@ -173,7 +176,7 @@ document_again key doc is =
     (doc_key_in (Text key.c) (at.id_there j)))
     ∙ (λ j. option_and_then (λ key. named_doc key (doc_with (result_ok (body_in key.d (whole.object j)))
     (revno_again doc.revno j) (queue_again doc.queue is.queue j) (mark_again doc.remove is.remove j)))
-    (key_again key is.key j))
+    (key_again key is.names j))
     ∙ ap (λ (read : Result Value BodyFault). named_doc key (doc_with (result_ok read) (Some doc.revno) (Some doc.queue) (Some doc.remove))) (is.body key.d)
 
 -- ---- the cell
@@ -199,3 +202,10 @@ cell_again name.Nonce (cell.Nonce next) is =
     ∙ ap (λ (layer : Value-F Value). named_nonce (nonce_of_fields (fields_in layer))) (object_layer (nonce_fields next))
     ∙ ap named_nonce (counter_again next is)
 cell_again _ _ is = absurd is
+
+-- ---- the line
+
+pub line_again : (named : Named) → IsStorable named → IsReadable (cell_value named) → cell_of_line (cell_text named) ≡ Some named
+line_again named is readable =
+    ap (λ (read : Result Value ValueFault). option_and_then cell_in (result_ok read)) (reads_back (cell_value named) readable)
+    ∙ cell_again named.name named.cell is
