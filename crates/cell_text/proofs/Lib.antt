@@ -1,1 +1,5 @@
-mod ReadLists
+pub mod ReadLists
+pub mod PartsAgain
+pub mod FieldsAgain
+pub mod BodiesAgain
+pub mod CellsAgain

@@ -1,5 +1,5 @@
 -- What the values in a cell are read as: nothing where one is faulty.
-use Rattle.std.specs.Prelude.{ℕ, ℤ, pos, map, nat_lt, codes, Bool, true, false, ◌==◌, Option, Some, None, List, [], ◌∷◌, if◌then◌else◌}
+use Rattle.std.specs.Prelude.{ℕ, ℤ, pos, map, nat_lt, codes, Bool, true, false, ◌==◌, ◌&&◌, Option, Some, None, List, [], ◌∷◌, if◌then◌else◌}
 use Rattle.std.specs.Option.{option_map}
 use Rattle.std.specs.Result.{result_ok}
 use Rattle.doc_value.specs.Depth.{nesting}

@@ -46,13 +46,13 @@ pub record IsRecord (rec : Record) : Type 0 where
   pub ops : IsTransaction rec.ops
 
 pub record IsDocument (key : Key) (doc : DocCell) : Type 0 where
-  pub key : IsKey key
+  pub names : IsKey key
   pub body : IsBody doc.body
   pub queue : All IsToken doc.queue
   pub remove : IfThere IsToken doc.remove
 
 pub record IsEntry (key : Key) (stash : StashCell) : Type 0 where
-  pub key : IsKey key
+  pub names : IsKey key
   pub queue : All IsToken stash.queue
   pub insert : IfThere IsToken stash.insert
 

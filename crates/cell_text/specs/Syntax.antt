@@ -4,6 +4,7 @@ use Rattle.std.specs.Option.{option_map}
 use Rattle.std.specs.Result.{result_ok}
 use Rattle.std.specs.Str.{bytes_eq}
 use Rattle.doc_value.specs.Bodies.{body_in}
+use Rattle.doc_value.specs.Syntax.{value_in}
 use Rattle.doc_value.specs.declared.value.Named.{Named as Field}
 use Rattle.doc_value.specs.declared.value.Value.{Value, Object, out-Value}
 use Rattle.doc_value.specs.declared.value.Value.TheOpen.{Value-F}
@@ -155,6 +156,10 @@ cell_of_fields _ = None
 
 abbrev pub cell_in : Value → Option Named
 cell_in value = cell_of_fields (fields_in (out-Value value))
+
+-- the cell that a line is
+abbrev pub cell_of_line : List ℕ → Option Named
+cell_of_line line = option_and_then cell_in (result_ok (value_in line))
 
 -- ---- what code answers
 

@@ -6,11 +6,13 @@
 
 mod fault;
 mod fields;
+mod laws;
 mod parts;
 mod print;
 mod read;
 mod values;
 
 pub use fault::CellFault;
+pub use laws::cells_read_back;
 pub use print::{cell_text, push_cell_text};
 pub use read::read_cell_text;

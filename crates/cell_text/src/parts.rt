@@ -3,7 +3,8 @@ ghost use Rattle.std.specs.Prelude.{◌≡◌, ◌≢◌, map, Err, IfOk};
 ghost use Rattle.std.specs.Option.{option_copied};
 ghost use Rattle.std.specs.Result.{result_ok};
 ghost use Rattle.doc_value.specs.declared.value.Value.{out-Value};
-ghost use Rattle.txn_key.specs.Ids.{id_of, nonce_of, token_of};
+ghost use Rattle.txn_key.specs.Ids.{id_of, token_of};
+ghost use Rattle.txn_key.specs.Syntax.{key_in};
 ghost use Rattle.cell_text.specs.Syntax.{or_bad};
 ghost use Rattle.cell_text.specs.Parts.{all_read, counter_in, info_in, key_object_in, key_of_fields, list_in, mark_in, needed, nonce_in, number_in, ops_there, queue_in, revno_in, revnos_in, state_in, state_with, text_in};
 

@@ -1,11 +1,12 @@
 //! The lines of scripts. How documents are shown stands as a script in `examples/values.jsonl`.
-use doc_value::OutOfMemory;
+use doc_value::{OutOfMemory, read_value};
 use std::alloc::Global;
 use std::test::Fail;
-use txn_script::{ScriptFault, Statement, read_line};
+use store_trait::Named;
+use txn_script::{GoPlan, ScriptFault, Statement, print_cell, read_line};
 
 /// Lines and their kind, or the text that refuses them.
-static LINES: [(&str, &str); 65] = [
+static LINES: [(&str, &str); 88] = [
     ("", "nothing"),
     (" \t\r", "nothing"),
     (r#"# {"show":true}"#, "nothing"),
@@ -83,40 +84,72 @@ static LINES: [(&str, &str); 65] = [
     (r#"{"go":{}}"#, "go"),
     (r#"{"show":true}"#, "show"),
     (r#"{"show":false,"show":true}"#, "show"),
-    (r#"{"go":{"runners":2}}"#, "not built yet"),
-    (r#"{"go":[]}"#, "not built yet"),
-    (r#"{"go":true}"#, "not built yet"),
-    (r#"{"show":false}"#, "not built yet"),
-    (r#"{"show":1}"#, "not built yet"),
-    (r#"{"Show":true}"#, "not built yet"),
-    ("null", "not built yet"),
-    (r#"["show"]"#, "not built yet"),
-    ("{}", "not built yet"),
-    (r#"{"body":{}}"#, "not built yet"),
-    (r#"{"doc":["k","a"]}"#, "not built yet"),
-    (r#"{"audit":true}"#, "not built yet"),
-    (r#"{"cell":"nonce","is":{"next":1}}"#, "not built yet"),
-    (r#"{"go":{},"show":true}"#, "not built yet"),
+    (r#"{"go":{"runners":1}}"#, "not built yet"),
+    (
+        r#"{"go":{"stops":[[0,9]],"finish":false}}"#,
+        "not built yet",
+    ),
+    (r#"{"go":{"runners":0}}"#, "bad statement"),
+    (r#"{"go":[]}"#, "bad statement"),
+    (r#"{"go":true}"#, "bad statement"),
+    (
+        r#"{"resume":"00000000000000000000000A"}"#,
+        "resume 00000000000000000000000a",
+    ),
+    (r#"{"resume":"all"}"#, "resume all"),
+    (r#"{"resume":"ALL"}"#, "bad id"),
+    (r#"{"resume":""}"#, "bad id"),
+    (r#"{"resume":"00000000000000000000001"}"#, "bad id"),
+    (r#"{"resume":null}"#, "bad id"),
+    (r#"{"resume":true}"#, "bad id"),
+    (r#"{"resume":"all","x":1}"#, "bad statement"),
+    (r#"{"prune":true}"#, "prune"),
+    (r#"{"purge":true}"#, "purge"),
+    (r#"{"audit":true}"#, "audit"),
+    (r#"{"export":true}"#, "export"),
+    (r#"{"order":true}"#, "order"),
+    (r#"{"prune":false}"#, "bad statement"),
+    (r#"{"purge":1}"#, "bad statement"),
+    (r#"{"audit":"true"}"#, "bad statement"),
+    (r#"{"show":false}"#, "bad statement"),
+    (r#"{"show":1}"#, "bad statement"),
+    (r#"{"export":null}"#, "bad statement"),
+    (r#"{"order":[]}"#, "bad statement"),
+    (r#"{"Show":true}"#, "bad statement"),
+    (r#"{"sweep":true}"#, "bad statement"),
+    ("null", "bad statement"),
+    (r#"["show"]"#, "bad statement"),
+    ("{}", "bad statement"),
+    (r#"{"body":{}}"#, "bad statement"),
+    (r#"{"doc":["k","a"]}"#, "bad statement"),
+    (r#"{"show":true,"export":true}"#, "bad statement"),
+    (r#"{"go":{},"show":true}"#, "bad statement"),
     (
         r#"{"info":1,"ops":[{"c":"k","d":"a","u":{"$set":{"v":1}}}],"to":1,"txn":"000000000000000000000001"}"#,
-        "not built yet",
+        "bad statement",
     ),
     (
         r#"{"Info":1,"ops":[{"c":"k","d":"a","u":{"$set":{"v":1}}}],"txn":"000000000000000000000001"}"#,
-        "not built yet",
+        "bad statement",
     ),
     (
         r#"{"info":1,"txn":"000000000000000000000001"}"#,
-        "not built yet",
+        "bad statement",
     ),
     (
         r#"{"info":1,"ops":[{"c":"k","d":"a","u":{"$set":{"v":1}}}]}"#,
-        "not built yet",
+        "bad statement",
     ),
+    (
+        r#"{"cell":"nonce","is":{"next":1}}"#,
+        r#"{"cell":"nonce","is":{"next":1}}"#,
+    ),
+    (r#"{"cell":"nonce","show":true}"#, "bad cell"),
+    (r#"{"cell":null}"#, "bad cell"),
 ];
 
 /// Lines with two faults, and the text of the first by the order of the tests.
-static DOUBLY_FAULTY: [(&str, &str); 18] = [
+static DOUBLY_FAULTY: [(&str, &str); 23] = [
     (r#"{"":1.5"#, "not JSON"),
     (r#"{"txn":"x","ops":[]"#, "not JSON"),
     (r#"{"a":1.5,"":1}"#, "bad field name"),
@@ -130,11 +163,16 @@ static DOUBLY_FAULTY: [(&str, &str); 18] = [
     (r#"{"ops":[5,5],"info":1,"txn":[]}"#, "bad id"),
     (r#"{"body":5,"doc":5}"#, "bad body"),
     (r#"{"body":{"$a":1},"doc":["k",null]}"#, "bad body"),
-    (r#"{"txn":"x"}"#, "not built yet"),
-    (r#"{"txn":"x","ops":[],"y":1}"#, "not built yet"),
-    (r#"{"body":5,"doc":5,"x":1}"#, "not built yet"),
-    (r#"{"ops":[],"show":false}"#, "not built yet"),
-    (r#"{"show":1.5,"show":false}"#, "not built yet"),
+    (r#"{"txn":"x"}"#, "bad statement"),
+    (r#"{"txn":"x","ops":[],"y":1}"#, "bad statement"),
+    (r#"{"body":5,"doc":5,"x":1}"#, "bad statement"),
+    (r#"{"ops":[],"show":false}"#, "bad statement"),
+    (r#"{"show":1.5,"show":false}"#, "bad statement"),
+    (r#"{"resume":5,"show":false}"#, "bad statement"),
+    (r#"{"cell":"doc","txn":"x"}"#, "bad cell"),
+    (r#"{"cell":1.5}"#, "number not whole"),
+    (r#"{"cell":5,"body":5,"doc":5}"#, "bad cell"),
+    (r#"{"go":{"runners":2,"seed":-1}}"#, "bad statement"),
 ];
 
 /// Faulty operations, and the text of the first fault of the first faulty one.
@@ -213,7 +251,7 @@ static OPERATIONS: [(&str, &str); 19] = [
 
 /// Lines in which `@` stands for lists nested so deep.
 static NESTED: [(&str, usize, &str); 25] = [
-    ("@", 100, "not built yet"),
+    ("@", 100, "bad statement"),
     ("@", 101, "nested too deep"),
     ("@", 127, "nested too deep"),
     ("@", 128, "not JSON"),
@@ -258,7 +296,7 @@ static NESTED: [(&str, usize, &str); 25] = [
     (
         r#"{"info":@,"txn":"000000000000000000000001"}"#,
         91,
-        "not built yet",
+        "bad statement",
     ),
     (
         r#"{"info":@,"ops":[{"c":"k","d":"a","u":{"$set":{"v":1}}}],"txn":"000000000000000000000001"}"#,
@@ -296,16 +334,65 @@ static COUNTED: [(&str, usize, &str); 4] = [
     ("@5", 1000, "too many operations"),
 ];
 
+/// Plans of a batch, and what they are: runners, seed, whether what is left is finished, and the stops.
+static PLANS: [(&str, &str); 33] = [
+    ("{}", "1 0 true"),
+    (r#"{"runners":16}"#, "16 0 true"),
+    (r#"{"seed":9223372036854775807}"#, "1 9223372036854775807 true"),
+    (r#"{"finish":false}"#, "1 0 false"),
+    (r#"{"finish":true,"stops":[]}"#, "1 0 true"),
+    (r#"{"stops":[[0,0]]}"#, "1 0 true 0:0"),
+    (
+        r#"{"finish":false,"runners":3,"seed":7,"stops":[[2,9223372036854775807],[0,1]]}"#,
+        "3 7 false 2:9223372036854775807 0:1",
+    ),
+    ("[]", "bad statement"),
+    ("null", "bad statement"),
+    ("true", "bad statement"),
+    (r#"{"runner":1}"#, "bad statement"),
+    (r#"{"runners":1,"x":1}"#, "bad statement"),
+    (r#"{"runners":0}"#, "bad statement"),
+    (r#"{"runners":17}"#, "bad statement"),
+    (r#"{"runners":-1}"#, "bad statement"),
+    (r#"{"runners":"2"}"#, "bad statement"),
+    (r#"{"runners":null}"#, "bad statement"),
+    (r#"{"seed":-1}"#, "bad statement"),
+    (r#"{"seed":"1"}"#, "bad statement"),
+    (r#"{"finish":1}"#, "bad statement"),
+    (r#"{"finish":null}"#, "bad statement"),
+    (r#"{"stops":{}}"#, "bad statement"),
+    (r#"{"stops":[0,1]}"#, "bad statement"),
+    (r#"{"stops":[[0]]}"#, "bad statement"),
+    (r#"{"stops":[[0,1,2]]}"#, "bad statement"),
+    (r#"{"stops":[[0,"1"]]}"#, "bad statement"),
+    (r#"{"stops":[[0,-1]]}"#, "bad statement"),
+    (r#"{"stops":[[-1,0]]}"#, "bad statement"),
+    (r#"{"stops":[[1,0]]}"#, "bad statement"),
+    (r#"{"runners":2,"stops":[[2,0]]}"#, "bad statement"),
+    (r#"{"runners":2,"stops":[[4294967297,0]]}"#, "bad statement"),
+    (r#"{"stops":[[0,1],[0,1]]}"#, "bad statement"),
+    (
+        r#"{"runners":3,"stops":[[1,1],[2,1],[1,2]]}"#,
+        "bad statement",
+    ),
+];
+
 const OPERATION: &str = r#"{"c":"k","d":"a","a":"d-"},"#;
 
-fn kind(statement: &Statement) -> &'static str {
-    match statement {
+/// The kind of a statement; of a cell its text.
+fn shown(alloc: Global, statement: Statement) -> Result<String, Fail> {
+    let kind = match statement {
         Statement::Doc { .. } => "doc",
+        Statement::Place { name, cell } => {
+            return Ok(String::from_utf8(print_cell(alloc, &Named { name, cell })?).ok().ok_or("text")?);
+        }
         Statement::Submit { info: None, .. } => "submit",
         Statement::Submit { .. } => "submit with info",
-        Statement::Place { .. } => "place",
         Statement::Go(_) => "go",
-        Statement::Resume(Some(_)) => "resume",
+        Statement::Resume(Some(id)) => {
+            let id = String::from_utf8(id.print(alloc)?).ok().ok_or("id")?;
+            return Ok(format!(in alloc; "resume {id}")?);
+        }
         Statement::Resume(None) => "resume all",
         Statement::Prune => "prune",
         Statement::Purge => "purge",
@@ -313,14 +400,15 @@ fn kind(statement: &Statement) -> &'static str {
         Statement::Show => "show",
         Statement::Export => "export",
         Statement::Order => "order",
-    }
+    };
+    Ok(String::from_str(alloc, kind)?)
 }
 
-/// Whether a line has that kind, or is refused by that text.
-fn is_read_as(alloc: Global, line: &[u8], expected: &str) -> Result<bool, OutOfMemory> {
+/// Whether a line is shown so, or is refused by that text.
+fn is_read_as(alloc: Global, line: &[u8], expected: &str) -> Result<bool, Fail> {
     match read_line(alloc, line) {
         Ok(None) => Ok(expected == "nothing"),
-        Ok(Some(statement)) => Ok(kind(&statement.copy(alloc)?) == expected),
+        Ok(Some(statement)) => Ok(shown(alloc, statement.copy(alloc)?)?.as_str() == expected),
         Err(fault) => Ok(fault.text(alloc)?.as_str() == expected),
     }
 }
@@ -360,19 +448,19 @@ fn filled(alloc: Global, line: &str, times: usize, pieces: [&str; 2]) -> Result<
     Ok(whole)
 }
 
-fn is_submission(alloc: Global, ops: &str, expected: &str) -> Result<bool, OutOfMemory> {
+fn is_submission(alloc: Global, ops: &str, expected: &str) -> Result<bool, Fail> {
     let line = submission(alloc, ops)?;
     is_read_as(alloc, line.as_bytes(), expected)
 }
 
 fn is_counted(alloc: Global, ops: &str, count: usize, expected: &str) -> Result<bool, Fail> {
     let ops = filled(alloc, ops, count, [OPERATION, ""])?;
-    Ok(is_submission(alloc, ops.as_str(), expected)?)
+    is_submission(alloc, ops.as_str(), expected)
 }
 
 fn is_nested(alloc: Global, line: &str, depth: usize, expected: &str) -> Result<bool, Fail> {
     let line = filled(alloc, line, depth, ["[", "]"])?;
-    Ok(is_read_as(alloc, line.as_bytes(), expected)?)
+    is_read_as(alloc, line.as_bytes(), expected)
 }
 
 #[test]
@@ -391,6 +479,36 @@ fn operations_have_faults_and_limits(rt: HostRuntime) -> Result<(), Fail> {
             is_nested(rt.alloc(), line, *depth, expected)?,
             "{line} {depth}"
         );
+    }
+    Ok(())
+}
+
+fn plan_text(alloc: Global, plan: &GoPlan) -> Result<String, OutOfMemory> {
+    let runners = plan.runners;
+    let seed = plan.seed;
+    let finish = plan.finish;
+    let mut text = format!(in alloc; "{runners} {seed} {finish}")?;
+    for stop in plan.stops.as_slice() {
+        let runner = stop.runner;
+        let steps = stop.steps;
+        let stop = format!(in alloc; " {runner}:{steps}")?;
+        text.push_str(stop.as_str())?;
+    }
+    Ok(text)
+}
+
+fn is_plan(alloc: Global, plan: &str, expected: &str) -> Result<bool, Fail> {
+    let value = read_value(alloc, plan.as_bytes())?;
+    match GoPlan::read(alloc, &value) {
+        Ok(plan) => Ok(plan_text(alloc, &plan.copy(alloc)?)?.as_str() == expected),
+        Err(fault) => Ok(fault.text(alloc)?.as_str() == expected),
+    }
+}
+
+#[test]
+fn plans_are_read_or_refused(rt: HostRuntime) -> Result<(), Fail> {
+    for (plan, expected) in &PLANS {
+        assert!(rt; is_plan(rt.alloc(), plan, expected)?, "{plan}");
     }
     Ok(())
 }

@@ -26,12 +26,12 @@ IsBytes-to_be_bytes n (suc (suc zero)) = omega arith
 IsBytes-to_be_bytes n (suc (suc (suc zero))) = omega arith
 IsBytes-to_be_bytes n (suc (suc (suc (suc i)))) = omega arith
 
-nonce_reads_back : (n : ℕ) → n < 2 ^ 32 → nonce_of (nonce_text n) ≡ Some n
+pub nonce_reads_back : (n : ℕ) → n < 2 ^ 32 → nonce_of (nonce_text n) ≡ Some n
 nonce_reads_back n h =
     ap (option_map (from_be_bytes w32)) (bytes_of-encode_lower 4 (to_be_bytes w32 n) refl (IsBytes-to_be_bytes n))
     ∙ ap Some (from_be_bytes-to_be_bytes_4 n h)
 
-id_reads_back : (id : TxnId) → length id.0 ≡ 12 → IsBytes id.0 → id_of (id_text id) ≡ Some id
+pub id_reads_back : (id : TxnId) → length id.0 ≡ 12 → IsBytes id.0 → id_of (id_text id) ≡ Some id
 id_reads_back id e bytes = ap (option_map (λ (xs : List ℕ). let made : TxnId = record { 0 = xs } in made)) (bytes_of-encode_lower 12 id.0 e bytes)
 
 -- a text of two parts round `_`, the first of 24 bytes and the second of 8
