@@ -1,9 +1,11 @@
 //! A script as it is played: what each statement does to the store, and what it answers.
 
-ghost use Rattle.std.specs.Prelude.{◌≡◌, [], true, IsTrue, IfOk, OnOk, IfErr};
+ghost use Rattle.std.specs.Prelude.{◌≡◌, [], true, false, None, IsTrue, IfOk, OnOk, OnErr, IfErr};
+ghost use Rattle.std.specs.FinMap.{insert};
+ghost use Rattle.store_trait.specs.Stores.{CallsGoOn};
 ghost use Rattle.txn_play.specs.Sessions.{HasAttended};
-ghost use Rattle.txn_play.specs.Progress.{is_default, lets_run, objection_to, runs_batch, unless_alone, Does, RunsBatch};
-ghost use Rattle.txn_play.specs.Sessions.{IsAgainst, IsKept, IsRefused, Stands, at};
+ghost use Rattle.txn_play.specs.Progress.{against_placing, is_default, lets_run, objection_to, runs_batch, unless_alone, Does, RunsBatch};
+ghost use Rattle.txn_play.specs.Sessions.{IsAgainst, IsCaused, IsKept, IsRefused, Stands, at};
 ghost use Rattle.txn_script.specs.declared.statement.Statement.TheVariants as statement;
 
 use crate::admission::{against_record, place, placed_doc};
@@ -85,14 +87,8 @@ impl<S: Store> Session<S> {
         requires cleared { self.old.batch ≡ [] }
         ensures { HasAttended S.Store (statement.Doc key body) self.old self.new result }
     {
-        if self.begun {
-            return Err(Refusal::Objected(Objection::PlacedTooLate));
-        }
-        if place(alloc, &mut self.store, &Name::Doc(key), placed_doc(alloc, body))? {
-            Ok(Answer::Nothing)
-        } else {
-            Err(Refusal::Objected(Objection::PlacedTwice))
-        }
+        let cell = placed_doc(alloc, body);
+        self.place_at(alloc, &Name::Doc(key), cell)
     }
 
     /// What a cell line places may be sound or not, so no batch is run behind it.
@@ -101,11 +97,30 @@ impl<S: Store> Session<S> {
         requires cleared { self.old.batch ≡ [] }
         ensures { HasAttended S.Store (statement.Place name cell) self.old self.new result }
     {
+        let answer = self.place_at(alloc, &name, cell)?;
+        self.documents_alone = false;
+        Ok(answer)
+    }
+
+    fn place_at(&mut self, alloc: Global, name: &Name, cell: Cell) -> Result<Answer, Refusal>
+        ensures placed { IsTrue S.tells → IfOk result (λ said. (said ≡ Answer.Nothing)
+            × (against_placing (at S.Store self.old) name.now cell ≡ None)
+            × (S.content self.new.store ≡ insert (S.content self.old.store) name.now cell)) }
+        ensures against { IsTrue S.tells → IfErr result
+            (IsAgainst (against_placing (at S.Store self.old) name.now cell)) }
+        ensures left { IsTrue S.tells → OnErr result
+            (S.content self.new.store ≡ S.content self.old.store) }
+        ensures unbegun { OnOk result (self.old.begun ≡ false) }
+        ensures rest { (self.new.batch ≡ self.old.batch) × (self.new.begun ≡ self.old.begun)
+            × (self.new.documents_alone ≡ self.old.documents_alone)
+            × (self.new.runs.items ≡ self.old.runs.items) }
+        ensures caused { IfErr result (IsCaused S.Store self.old self.new) }
+        ensures calls { CallsGoOn S.Store self.old.store self.new.store }
+    {
         if self.begun {
             return Err(Refusal::Objected(Objection::PlacedTooLate));
         }
-        if place(alloc, &mut self.store, &name, cell)? {
-            self.documents_alone = false;
+        if place(alloc, &mut self.store, name, cell)? {
             Ok(Answer::Nothing)
         } else {
             Err(Refusal::Objected(Objection::PlacedTwice))
