@@ -72,15 +72,15 @@ counted store old new (Err e) failed one = one.counted_err
 pub same_error : {U E : Type 0} (a b : E) → IsErrOf {T = U} (Err a) b → a ≡ b
 same_error a b e = cc
 
+still_err : {T U E : Type 0} {P : Type 0} (error failed : E) → IsErrOf {T = T} (Err error) failed ⊎ P → IsErrOf {T = U} (Err error) failed ⊎ P
+still_err error failed (inl same) = inl (ap Err (same_error error failed same))
+still_err error failed (inr stays) = inr stays
+
 pub call_err : {S T U E : Type 0} (store : Ghosts S) (old new : S) (result : Result T E) (error failed : E)
     → result ≡ Err error → OneCall store old new result failed → OneCall {T = U} store old new (Err error) failed
 call_err {S} {T} {U} {E} store old new result error failed is one =
     let o = subst (λ (r : Result T E). OneCall store old new r failed) is one in
     record { trail = o.trail; counted = tt; counted_err = o.counted_err; later = o.later; fault = λ same. o.fault (ap Err (same_error error failed same)); still = still_err error failed o.still }
-
-still_err : {T U E : Type 0} {P : Type 0} (error failed : E) → IsErrOf {T = T} (Err error) failed ⊎ P → IsErrOf {T = U} (Err error) failed ⊎ P
-still_err error failed (inl same) = inl (ap Err (same_error error failed same))
-still_err error failed (inr stays) = inr stays
 
 -- a step that is refused for memory before its call
 pub refused_idly : {S T : Type 0} (store : Ghosts S) (s : S)

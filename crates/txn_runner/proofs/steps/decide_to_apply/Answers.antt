@@ -35,20 +35,23 @@ returns-clause-suits g c = rw c.only.ensures.only c.after_decision.ensures.suits
 
 pub returns-in_err-record_decision-clause-works : goal.returns-in_err-record_decision-clause-works
 returns-in_err-record_decision-clause-works g c = λ told.
-    rw c.in_err-record_decision.ensures.kept (works_idly _ _ _ _ _ told (g.met.S.Store.present _ told) c.record_decision.ensures.call _ c.args.order.now.items (c.requires.worth told).sound (c.in_err-record_decision.ensures.left told (apply_hits _ _ c.args.nonce c.args.revno true (c.requires.worth told) state.Applying _)))
+    let fits = c.ranges.revno in
+    rw c.in_err-record_decision.ensures.kept (works_idly _ _ _ _ _ told (g.met.S.Store.present _ told) c.record_decision.ensures.call _ c.args.order.now.items (c.requires.worth told).sound ((simp to_z-of_z at (c.in_err-record_decision.ensures.left told)) (apply_hits _ _ c.args.nonce c.args.revno true (c.requires.worth told) state.Applying (Some (c.args.revno ∷ [])))))
 
 pub returns-in_err-record_decision-clause-comes : goal.returns-in_err-record_decision-clause-comes
 returns-in_err-record_decision-clause-comes g c = λ told.
+    let fits = c.ranges.revno in
     let p = err_from_is_err_and c.from_residual.result c.from_residual.ensures.1 in
-    rw (p.1, p.2) (comes_to_nothing _ _ _ (c.in_err-record_decision.ensures.never told (apply_hits _ _ c.args.nonce c.args.revno true (c.requires.worth told) state.Applying _)))
+    rw (p.1, p.2) (comes_to_nothing _ _ _ ((simp to_z-of_z at (c.in_err-record_decision.ensures.never told)) (apply_hits _ _ c.args.nonce c.args.revno true (c.requires.worth told) state.Applying (Some (c.args.revno ∷ [])))))
 
 pub returns-in_err-record_decision-clause-uses : goal.returns-in_err-record_decision-clause-uses
 returns-in_err-record_decision-clause-uses g c = λ told.
+    let fits = c.ranges.revno in
     let p = err_from_is_err_and c.from_residual.result c.from_residual.ensures.1 in
-    rw p.1 (uses_within (uses_same _ _ (c.in_err-record_decision.ensures.left told (apply_hits _ _ c.args.nonce c.args.revno true (c.requires.worth told) state.Applying _))) (omega arith) (omega arith))
+    rw p.1 (uses_within (uses_same _ _ ((simp to_z-of_z at (c.in_err-record_decision.ensures.left told)) (apply_hits _ _ c.args.nonce c.args.revno true (c.requires.worth told) state.Applying (Some (c.args.revno ∷ []))))) (omega arith) (omega arith))
 
 pub returns-in_err-record_decision-clause-stays : goal.returns-in_err-record_decision-clause-stays
-returns-in_err-record_decision-clause-stays g c = λ told. let p = err_from_is_err_and c.from_residual.result c.from_residual.ensures.1 in rw p.1 (same_record _ _ _ (c.in_err-record_decision.ensures.left told (apply_hits _ _ c.args.nonce c.args.revno true (c.requires.worth told) state.Applying _)))
+returns-in_err-record_decision-clause-stays g c = λ told. let fits = c.ranges.revno in let p = err_from_is_err_and c.from_residual.result c.from_residual.ensures.1 in rw p.1 (same_record _ _ _ ((simp to_z-of_z at (c.in_err-record_decision.ensures.left told)) (apply_hits _ _ c.args.nonce c.args.revno true (c.requires.worth told) state.Applying (Some (c.args.revno ∷ [])))))
 
 pub returns-clause-shown : goal.returns-clause-shown
 returns-clause-shown g c = on_the_way _ _ _ _ _ c.after_decision.ensures.goes_on

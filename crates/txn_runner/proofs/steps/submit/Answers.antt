@@ -13,9 +13,9 @@ pub returns-clause-works : goal.returns-clause-works
 returns-clause-works g c = λ told order.
     let calm = c.requires.calm told in
     ⊎_elim
-    (λ made. works_edited _ _ _ _ _ told (g.met.S.Store.present _ told) c.may_hit.ensures.call _ _ made (submit_quietly _ calm c.args.txn.now) (record_others _ _ (edit.InsertRecord (preparing_record c.args.txn.now))) order)
-    (λ same. works_idly _ _ _ _ _ told (g.met.S.Store.present _ told) c.may_hit.ensures.call _ order calm.sound same)
-    (made_or_left c.may_hit.result _ _ _ (rw c.in_ok-rec.ensures at (c.may_hit.ensures.made told)) (c.may_hit.ensures.left told))
+    (λ made. works_edited _ _ _ _ _ told (g.met.S.Store.present _ told) c.may_hit-hits.ensures.call _ _ made (submit_quietly _ calm c.args.txn.now) (record_others _ _ (edit.InsertRecord (preparing_record c.args.txn.now))) order)
+    (λ same. works_idly _ _ _ _ _ told (g.met.S.Store.present _ told) c.may_hit-hits.ensures.call _ order calm.sound same)
+    (made_or_left c.may_hit-hits.result _ _ _ (rw c.in_ok-rec.ensures at (c.may_hit-hits.ensures.made told)) (c.may_hit-hits.ensures.left told))
 
 pub returns-clause-calm : goal.returns-clause-calm
 returns-clause-calm g c = λ told.
@@ -23,17 +23,17 @@ returns-clause-calm g c = λ told.
     ⊎_elim
     (λ made. subst IsCalm (sym made) (submit_calm _ calm c.args.txn.now))
     (λ same. subst IsCalm (sym same) calm)
-    (made_or_left c.may_hit.result _ _ _ (rw c.in_ok-rec.ensures at (c.may_hit.ensures.made told)) (c.may_hit.ensures.left told))
+    (made_or_left c.may_hit-hits.result _ _ _ (rw c.in_ok-rec.ensures at (c.may_hit-hits.ensures.made told)) (c.may_hit-hits.ensures.left told))
 
 pub returns-clause-stands : goal.returns-clause-stands
 returns-clause-stands g c = λ told.
     let calm = c.requires.calm told in
     let fresh = c.requires.fresh told in
-    made_stands c.may_hit.result _ _ _ _ (rw c.in_ok-rec.ensures at (c.may_hit.ensures.hit told)) (submit_hits _ calm c.args.txn.now fresh) (rw c.in_ok-rec.ensures at (c.may_hit.ensures.made told)) (submit_stands _ calm c.args.txn.now fresh)
+    made_stands c.may_hit-hits.result _ _ _ _ (rw c.in_ok-rec.ensures at (c.may_hit-hits.ensures.hit told)) (submit_hits _ calm c.args.txn.now fresh) (rw c.in_ok-rec.ensures at (c.may_hit-hits.ensures.made told)) (submit_stands _ calm c.args.txn.now fresh)
 
 pub returns-clause-uses : goal.returns-clause-uses
 returns-clause-uses g c = λ told.
     ⊎_elim
     (λ made. uses_made made (uses_record _ _ (edit.InsertRecord (preparing_record c.args.txn.now))))
     (λ same. uses_same _ _ same)
-    (made_or_left c.may_hit.result _ _ _ (rw c.in_ok-rec.ensures at (c.may_hit.ensures.made told)) (c.may_hit.ensures.left told))
+    (made_or_left c.may_hit-hits.result _ _ _ (rw c.in_ok-rec.ensures at (c.may_hit-hits.ensures.made told)) (c.may_hit-hits.ensures.left told))
