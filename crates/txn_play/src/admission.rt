@@ -6,6 +6,7 @@ ghost use Rattle.std.specs.FinMap.{get, insert};
 ghost use Rattle.store_trait.specs.Names.{may_stand};
 ghost use Rattle.txn_play.specs.Progress.{has_no_cell, may_settle, placed_doc};
 ghost use Rattle.txn_play.specs.Refusals.{CallsAlone};
+ghost use Rattle.txn_runner.specs.Built.{is_built};
 ghost use Rattle.txn_runner.specs.Running.{OnlyReads};
 ghost use Rattle.txn_runner.specs.Store.{has_record};
 
