@@ -1,5 +1,5 @@
 -- A body is an object that has none of the names that a document has beside it.
-use Rattle.std.proofs.Common.{◌≡◌, ◌||◌, ℕ, pos, Bool, true, false, not, codes, filter, List, [], ◌∷◌, Option, Some, None, Result, Ok, Err, refl, sym, ap, ◌∙◌, if◌then◌else◌, true≢false, nat_lt}
+use Rattle.std.proofs.Common.{◌≡◌, ◌||◌, ◌&&◌, ℕ, pos, Bool, true, false, not, codes, filter, List, [], ◌∷◌, Option, Some, None, Result, Ok, Err, refl, sym, ap, ◌∙◌, if◌then◌else◌, true≢false, nat_lt}
 use Rattle.std.specs.Option.{option_or}
 use Rattle.std.specs.Str.{bytes_eq}
 use Rattle.std.proofs.lemmas.Slice.Eq.{bytes_eq-Decides}
@@ -49,18 +49,18 @@ clean_field id f not_id h = by (is_refused_name f.name || is_transaction_name f.
 
 clean : (id : DocId) (fs : Fields) → first_refused id fs ≡ None → have_no_own (without_id fs) ≡ true
 clean id [] h = refl
-clean id (f ∷ fs) h = by (is_id_name f.name) refl
+clean id (f ∷ fs) h =
+    let parts = both_none (refused_at_top id f) (first_refused id fs) h in
+    by (is_id_name f.name) refl parts.0 (clean id fs parts.1)
   where
-    parts : (refused_at_top id f ≡ None) × (first_refused id fs ≡ None)
-    parts = both_none (refused_at_top id f) (first_refused id fs) h
-    by : (b : Bool) → is_id_name f.name ≡ b → have_no_own (if not b then f ∷ without_id fs else without_id fs) ≡ true
-    by true is = clean id fs parts.1
-    by false is = ap (λ (own : Bool). if not own then have_no_own (without_id fs) else false) (clean_field id f is parts.0) ∙ clean id fs parts.1
+    by : (b : Bool) → is_id_name f.name ≡ b → refused_at_top id f ≡ None → have_no_own (without_id fs) ≡ true → have_no_own (if not b then f ∷ without_id fs else without_id fs) ≡ true
+    by true is fine rest = rest
+    by false is fine rest = ap (λ (own : Bool). not own && have_no_own (without_id fs)) (clean_field id f is fine) ∙ rest
 
 -- the fields of a body
 pub record Bodied (body : Value) : Type 0 where
-  object : Object (fields_in (out-Value body)) ≡ body
-  others : have_no_own (fields_in (out-Value body)) ≡ true
+  pub object : Object (fields_in (out-Value body)) ≡ body
+  pub others : have_no_own (fields_in (out-Value body)) ≡ true
 
 pub bodied : (body : Value) → IsBody body → Bodied body
 bodied body h = by (out-Value body) refl (h zero_id)

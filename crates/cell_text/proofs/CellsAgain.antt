@@ -28,7 +28,7 @@ use Rattle.store_trait.specs.declared.name.Name.TheVariants as name
 use Rattle.cell_text.specs.Fields.{field, fields_in, has_only, with_field}
 use Rattle.cell_text.specs.Parts.{text_in, needed, state_in, number_in, ops_there, key_object_in, queue_in, revno_in, mark_in, nonce_in, revnos_in, info_in}
 use Rattle.cell_text.specs.Storable.{IsRecord, IsDocument, IsEntry, IsStorable, StoredUnder}
-use Rattle.cell_text.specs.Syntax.{cell_in, cell_of_fields, cell_of_line, doc_in, doc_key_in, doc_under, doc_with, is_doc_kind, is_own_name, is_record_name, is_stash_name, named_doc, named_nonce, named_record, named_stash, nonce_of_fields, of_kind_in, record_in, record_with, stash_cell_in, stash_in, stash_with, without_own}
+use Rattle.cell_text.specs.Syntax.{cell_in, cell_of_fields, cell_of_line, doc_in, doc_key_in, doc_under, doc_with, is_doc_kind, is_own_name, is_record_name, is_stash_name, named_doc, named_nonce, named_record, named_stash, nonce_of_fields, of_kind_in, record_in, record_of, record_with, stash_cell_in, stash_in, stash_with, without_own}
 use Rattle.cell_text.specs.Values.{cell_text, cell_value, doc_fields, key_value, mark_value, nonce_fields, nonce_value, of_kind, queue_value, record_fields, revno_value, revnos_value, stash_fields, value_under}
 use Rattle.cell_text.proofs.BodiesAgain.{Bodied, bodied}
 use Rattle.cell_text.proofs.FieldsAgain.{Fields, found_with, found_without, have_no_own, is_other, others_are_all, others_with, own_is_absent}
@@ -61,6 +61,7 @@ record_look id (Some i) (Some n) ops None state = record { known = refl; id_ther
 record_look id (Some i) (Some n) ops (Some r) state = record { known = refl; id_there = refl; info_there = refl; nonce_there = refl; ops_found = refl; revnos_there = refl; state_there = refl }
 
 record_again : (rec : Record) → IsRecord rec → record_in (Object (record_fields rec)) ≡ Some rec
+unfolding record_of
 record_again rec is =
     let layer = object_layer (record_fields rec) in
     let at = record_look (Text (id_text rec.id)) rec.info (nonce_value rec.nonce) (ops_value rec.ops) (revnos_value rec.revnos) (Int (pos (state_number rec.state))) in
@@ -95,6 +96,7 @@ stash_look id (Some i) None revno = record { known = refl; id_there = refl; inse
 stash_look id (Some i) (Some q) revno = record { known = refl; id_there = refl; insert_there = refl; queue_there = refl; revno_there = refl }
 
 entry_again : (key : Key) (stash : StashCell) → IsEntry key stash → stash_in (Object (stash_fields key stash)) ≡ Some (record { name = name.Stash key; cell = cell.Stash stash })
+unfolding stash_in
 entry_again key stash is =
     let layer = object_layer (stash_fields key stash) in
     let at = stash_look (key_value key) (mark_value stash.insert) (queue_value stash.queue) (Int stash.revno) in
@@ -163,6 +165,7 @@ doc_look id queue remove revno rest none =
     }
 
 document_again : (key : Key) (doc : DocCell) → IsDocument key doc → doc_in (Text key.c) (Object (doc_fields key.d doc)) ≡ Some (record { name = name.Doc key; cell = cell.Doc doc })
+unfolding doc_in doc_under
 document_again key doc is =
     let layer = object_layer (doc_fields key.d doc) in
     let whole = bodied doc.body is.body in
@@ -182,11 +185,13 @@ document_again key doc is =
 -- ---- the cell
 
 keyless : (kind : List ℕ) (fs : Fields) → cell_in (Object (of_kind kind fs)) ≡ of_kind_in (Object fs) kind
+unfolding cell_in
 keyless kind fs =
     ap (λ (layer : Value-F Value). cell_of_fields (fields_in layer)) (object_layer (of_kind kind fs))
     ∙ ap (text_in (of_kind_in (Object fs))) (text_layer kind)
 
 keyed : (c : List ℕ) (fs : Fields) → cell_in (Object (field (codes "c") (Text c) ∷ of_kind (codes "doc") fs)) ≡ doc_in (Text c) (Object fs)
+unfolding cell_in
 keyed c fs =
     ap (λ (layer : Value-F Value). cell_of_fields (fields_in layer)) (object_layer (field (codes "c") (Text c) ∷ of_kind (codes "doc") fs))
     ∙ ap (λ (layer : Value-F Value). if is_doc_kind layer then doc_in (Text c) (Object fs) else None) (text_layer (codes "doc"))

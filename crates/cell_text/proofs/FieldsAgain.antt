@@ -32,29 +32,29 @@ not_first name f fs h = by (bytes_eq f.name name) refl
 
 found_inserted : (name : List ℕ) (new : Field Value) (fs : Fields) → bytes_eq new.name name ≡ true → field_named name fs ≡ None → field_named name (inserted new fs) ≡ Some new.value
 found_inserted name new [] same h = ap (λ (b : Bool). if b then Some new.value else None) same
-found_inserted name new (f ∷ fs) same h = by (below f new) refl
+found_inserted name new (f ∷ fs) same h =
+    let rest = not_first name f fs h in
+    by (below f new) rest.0 (found_inserted name new fs same rest.1)
   where
-    rest : (bytes_eq f.name name ≡ false) × (field_named name fs ≡ None)
-    rest = not_first name f fs h
-    by : (b : Bool) → below f new ≡ b → field_named name (if b then f ∷ inserted new fs else new ∷ f ∷ fs) ≡ Some new.value
-    by true is = ap (λ (b : Bool). if b then Some f.value else field_named name (inserted new fs)) rest.0 ∙ found_inserted name new fs same rest.1
-    by false is = ap (λ (b : Bool). if b then Some new.value else field_named name (f ∷ fs)) same
+    by : (b : Bool) → bytes_eq f.name name ≡ false → field_named name (inserted new fs) ≡ Some new.value → field_named name (if b then f ∷ inserted new fs else new ∷ f ∷ fs) ≡ Some new.value
+    by true other found = ap (λ (b : Bool). if b then Some f.value else field_named name (inserted new fs)) other ∙ found
+    by false other found = ap (λ (b : Bool). if b then Some new.value else field_named name (f ∷ fs)) same
 
 found_beside : (name : List ℕ) (new : Field Value) (fs : Fields) → bytes_eq new.name name ≡ false → field_named name (inserted new fs) ≡ field_named name fs
 found_beside name new [] other = ap (λ (b : Bool). if b then Some new.value else None) other
-found_beside name new (f ∷ fs) other = by (below f new)
+found_beside name new (f ∷ fs) other = by (below f new) (found_beside name new fs other)
   where
-    by : (b : Bool) → field_named name (if b then f ∷ inserted new fs else new ∷ f ∷ fs) ≡ field_named name (f ∷ fs)
-    by true = ap (λ (found : Option Value). if bytes_eq f.name name then Some f.value else found) (found_beside name new fs other)
-    by false = ap (λ (b : Bool). if b then Some new.value else field_named name (f ∷ fs)) other
+    by : (b : Bool) → field_named name (inserted new fs) ≡ field_named name fs → field_named name (if b then f ∷ inserted new fs else new ∷ f ∷ fs) ≡ field_named name (f ∷ fs)
+    by true found = ap (λ (found : Option Value). if bytes_eq f.name name then Some f.value else found) found
+    by false found = ap (λ (b : Bool). if b then Some new.value else field_named name (f ∷ fs)) other
 
 others_kept : (new : Field Value) (fs : Fields) → is_own_name new.name ≡ true → filter is_other (inserted new fs) ≡ filter is_other fs
 others_kept new [] own = ap (λ (b : Bool). if not b then new ∷ [] else []) own
-others_kept new (f ∷ fs) own = by (below f new)
+others_kept new (f ∷ fs) own = by (below f new) (others_kept new fs own)
   where
-    by : (b : Bool) → filter is_other (if b then f ∷ inserted new fs else new ∷ f ∷ fs) ≡ filter is_other (f ∷ fs)
-    by true = ap (λ (kept : Fields). if is_other f then f ∷ kept else kept) (others_kept new fs own)
-    by false = ap (λ (b : Bool). if not b then new ∷ filter is_other (f ∷ fs) else filter is_other (f ∷ fs)) own
+    by : (b : Bool) → filter is_other (inserted new fs) ≡ filter is_other fs → filter is_other (if b then f ∷ inserted new fs else new ∷ f ∷ fs) ≡ filter is_other (f ∷ fs)
+    by true kept = ap (λ (kept : Fields). if is_other f then f ∷ kept else kept) kept
+    by false kept = ap (λ (b : Bool). if not b then new ∷ filter is_other (f ∷ fs) else filter is_other (f ∷ fs)) own
 
 -- ---- the same, where there may be no value for it
 
@@ -90,10 +90,10 @@ others_are_all (f ∷ fs) h =
 
 pub own_is_absent : (name : List ℕ) (fs : Fields) → ((other : List ℕ) → bytes_eq other name ≡ true → is_own_name other ≡ true) → have_no_own fs ≡ true → field_named name fs ≡ None
 own_is_absent name [] own h = refl
-own_is_absent name (f ∷ fs) own h = by (bytes_eq f.name name) refl
+own_is_absent name (f ∷ fs) own h =
+    let parts = each_other f fs h in
+    by (bytes_eq f.name name) refl parts.0 (own_is_absent name fs own parts.1)
   where
-    parts : (is_own_name f.name ≡ false) × (have_no_own fs ≡ true)
-    parts = each_other f fs h
-    by : (b : Bool) → bytes_eq f.name name ≡ b → (if b then Some f.value else field_named name fs) ≡ None
-    by true is = absurd (true≢false (sym (own f.name is) ∙ parts.0))
-    by false is = own_is_absent name fs own parts.1
+    by : (b : Bool) → bytes_eq f.name name ≡ b → is_own_name f.name ≡ false → field_named name fs ≡ None → (if b then Some f.value else field_named name fs) ≡ None
+    by true is other rest = absurd (true≢false (sym (own f.name is) ∙ other))
+    by false is other rest = rest

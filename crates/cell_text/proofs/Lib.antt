@@ -3,3 +3,4 @@ pub mod PartsAgain
 pub mod FieldsAgain
 pub mod BodiesAgain
 pub mod CellsAgain
+pub mod RecordsRead

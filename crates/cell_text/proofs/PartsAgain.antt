@@ -1,9 +1,10 @@
 -- What the parts of a cell print as is read as these parts.
-use Rattle.std.proofs.Common.{◌≡◌, ◌≤◌, ◌==◌, ℕ, ℤ, pos, negsuc, suc, Bool, true, false, nat_lt, map, codes, List, [], ◌∷◌, Option, Some, None, option_and_then, Result, Ok, refl, ap, ◌∙◌, arith, rules, if◌then◌else◌}
+use Rattle.std.proofs.Common.{◌≡◌, ◌≤◌, ◌==◌, ℕ, ℤ, pos, Bool, true, false, nat_lt, map, codes, List, [], ◌∷◌, Option, Some, None, option_and_then, Result, Ok, refl, sym, ap, ◌∙◌, arith, rules, if◌then◌else◌}
 use Rattle.std.specs.List.{All}
 use Rattle.std.specs.Option.{option_map}
 use Rattle.std.specs.Result.{result_ok}
-use Rattle.std.proofs.lemmas.Bool.Decides.{nat_tests}
+use Rattle.std.proofs.lemmas.Bool.Decides.{nat_tests, Decides-int_eq}
+use Rattle.std.specs.Ordering.{int_eq}
 use Rattle.std.proofs.lemmas.List.Elements.{All-head, All-tail}
 use Rattle.doc_value.specs.Depth.{nesting}
 use Rattle.doc_value.specs.declared.doc_id.DocId.{DocId}
@@ -25,7 +26,7 @@ use Rattle.txn_record.specs.declared.op.Op.{Op}
 use Rattle.txn_record.specs.declared.state.State.{State}
 use Rattle.txn_record.specs.declared.state.State.TheVariants.{Preparing, Prepared, Aborting, Applying, Aborted, Applied}
 use Rattle.txn_record.proofs.ReadBack.{ops_again}
-use Rattle.cell_text.specs.Parts.{all_read, text_in, list_in, number_in, needed, state_in, counter_in, ops_there, key_object_in, key_of_fields, queue_in, revno_in, mark_in, nonce_in, revnos_in, info_in}
+use Rattle.cell_text.specs.Parts.{all_read, text_in, token_in, list_in, number_in, needed, state_in, counter_in, ops_there, key_object_in, key_of_fields, queue_in, revno_in, mark_in, nonce_in, revnos_in, info_in}
 use Rattle.cell_text.specs.Storable.{IfThere, IsId, IsNonce, IsToken, IsInfo, IsKey}
 use Rattle.cell_text.specs.Values.{token_value, queue_value, mark_value, revno_value, nonce_value, revnos_value, key_value}
 
@@ -82,18 +83,19 @@ state_again Applied = ap state_in (number_layer (pos 6))
 
 -- ---- queues, marks and numbers
 
-token_again : (token : Token) → IsToken token → text_in token_of (out-Value (token_value token)) ≡ Some token
-token_again token is = ap (text_in token_of) (text_layer (token_text token)) ∙ token_of-token_text token is.0.0 is.0.1 is.1
+token_again : (token : Token) → IsToken token → token_in (out-Value (token_value token)) ≡ Some token
+unfolding token_in
+token_again token is = ap token_in (text_layer (token_text token)) ∙ token_of-token_text token is.0.0 is.0.1 is.1
 
-tokens_again : (queue : List Token) → All IsToken queue → all_read (map (λ value. text_in token_of (out-Value value)) (map token_value queue)) ≡ Some queue
+tokens_again : (queue : List Token) → All IsToken queue → all_read (map (λ value. token_in (out-Value value)) (map token_value queue)) ≡ Some queue
 tokens_again [] is = refl
 tokens_again (token ∷ queue) is =
-    ap (λ (read : Option Token). all_read (read ∷ map (λ value. text_in token_of (out-Value value)) (map token_value queue))) (token_again token (All-head IsToken token queue is))
+    ap (λ (read : Option Token). all_read (read ∷ map (λ value. token_in (out-Value value)) (map token_value queue))) (token_again token (All-head IsToken token queue is))
     ∙ ap (option_map (λ others. token ∷ others)) (tokens_again queue (All-tail IsToken token queue is))
 
 pub queue_again : (queue : List Token) → All IsToken queue → queue_in (queue_value queue) ≡ Some queue
 queue_again [] is = refl
-queue_again (token ∷ queue) is = ap (list_in (text_in token_of)) (list_layer (map token_value (token ∷ queue))) ∙ tokens_again (token ∷ queue) is
+queue_again (token ∷ queue) is = ap (list_in token_in) (list_layer (map token_value (token ∷ queue))) ∙ tokens_again (token ∷ queue) is
 
 pub mark_again : (mark : Option Token) → IfThere IsToken mark → mark_in (mark_value mark) ≡ Some mark
 mark_again None is = refl
@@ -103,9 +105,11 @@ pub number_again : (number : ℤ) → needed number_in (Some (Int number)) ≡ S
 number_again number = ap number_in (number_layer number)
 
 pub revno_again : (revno : ℤ) → revno_in (revno_value revno) ≡ Some revno
-revno_again (pos 0) = refl
-revno_again (pos (suc n)) = ap number_in (number_layer (pos (suc n)))
-revno_again (negsuc n) = ap number_in (number_layer (negsuc n))
+revno_again revno = by (int_eq revno (pos 0)) refl
+  where
+    by : (b : Bool) → int_eq revno (pos 0) ≡ b → revno_in (if b then None else Some (Int revno)) ≡ Some revno
+    by true is = ap Some (sym ((Decides-int_eq revno (pos 0)).0 is))
+    by false is = ap number_in (number_layer revno)
 
 -- ---- keys
 

@@ -21,19 +21,15 @@ after_push : {A : Type 0} (those : List A) (first : A) (read : Option (List A)) 
 after_push those first (Some rest) = ap Some (append_assoc those (first ∷ []) rest)
 after_push those first None = refl
 
+opened : {A B : Type 0} (f : B → Option A) (value : B) (rest : List B) (read : Option A) → f value ≡ read → one_more read (all_read (map f rest)) ≡ all_read (map f (value ∷ rest))
+opened {A = A} f value rest (Some first) is = ap (λ (read : Option A). all_read (read ∷ map f rest)) (sym is)
+opened {A = A} f value rest None is = ap (λ (read : Option A). all_read (read ∷ map f rest)) (sym is)
+
 -- one more value read
 pub after_next : {A B : Type 0} (f : B → Option A) (values : List B) (i : ℕ) (those : List A) (value : B) (first : A) → i < length values → value ≡ get_or values i value → Some first ≡ f value
     → after_those (those ++ first ∷ []) (all_read (map f (drop (i + 1) values))) ≡ after_those those (all_read (map f (drop i values)))
-after_next f values i those value first within here is =
+after_next {A = A} {B = B} f values i those value first within here is =
     let run = λ (rest : List B). after_those those (all_read (map f rest)) in
     after_push those first (all_read (map f (drop (i + 1) values)))
-    ∙ ap (λ (read : Option A). after_those those (one_more read (all_read (map f (drop (i + 1) values))))) is
-    ∙ ap (after_those those) (opened f value (drop (i + 1) values))
+    ∙ ap (after_those those) (opened f value (drop (i + 1) values) (Some first) (sym is))
     ∙ sym (at_drop_more run values i value within ∙ ap (λ (one : B). run (one ∷ drop (i + 1) values)) (sym here))
-  where
-    opened : {A B : Type 0} (f : B → Option A) (value : B) (rest : List B) → one_more (f value) (all_read (map f rest)) ≡ all_read (map f (value ∷ rest))
-    opened f value rest = by (f value)
-      where
-        by : (read : Option A) → one_more read (all_read (map f rest)) ≡ all_read (read ∷ map f rest)
-        by (Some first) = refl
-        by None = refl

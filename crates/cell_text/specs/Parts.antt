@@ -27,6 +27,9 @@ abbrev pub number_in : Value-F Value → Option ℤ
 number_in (Value-F.Int number) = Some number
 number_in _ = None
 
+unfoldable pub token_in : Value-F Value → Option Token
+token_in layer = text_in token_of layer
+
 -- all, where each is there
 abbrev pub all_read : {A : Type 0} → List (Option A) → Option (List A)
 all_read [] = Some []
@@ -81,13 +84,13 @@ if_there absent read (Some value) = read (out-Value value)
 if_there absent read None = Some absent
 
 abbrev pub queue_in : Option Value → Option (List Token)
-queue_in value = if_there [] (list_in (text_in token_of)) value
+queue_in value = if_there [] (list_in token_in) value
 
 abbrev pub revno_in : Option Value → Option ℤ
 revno_in value = if_there (pos 0) number_in value
 
 abbrev pub mark_in : Option Value → Option (Option Token)
-mark_in value = if_there None (λ layer. option_map Some (text_in token_of layer)) value
+mark_in value = if_there None (λ layer. option_map Some (token_in layer)) value
 
 abbrev pub nonce_in : Option Value → Option (Option ℕ)
 nonce_in value = if_there None (λ layer. option_map Some (text_in nonce_of layer)) value

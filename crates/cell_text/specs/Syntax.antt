@@ -39,14 +39,15 @@ record_with (Some id) (Some info) (Some nonce) (Some ops) (Some revnos) (Some st
     Some (record { id = id; state = state; info = info; ops = ops; nonce = nonce; revnos = revnos })
 record_with _ _ _ _ _ _ = None
 
-abbrev pub record_in : Value → Option Record
-record_in value =
-    if has_only is_record_name (out-Value value)
-    then record_with (needed (text_in id_of) (part (codes "_id") value))
+unfoldable pub record_of : Value → Option Record
+record_of value =
+    record_with (needed (text_in id_of) (part (codes "_id") value))
     (info_in (part (codes "i") value)) (nonce_in (part (codes "n") value))
     (ops_there (part (codes "o") value)) (revnos_in (part (codes "r") value))
     (needed state_in (part (codes "s") value))
-    else None
+
+abbrev pub record_in : Value → Option Record
+record_in value = if has_only is_record_name (out-Value value) then record_of value else None
 
 -- ---- a document
 
@@ -66,7 +67,7 @@ doc_with (Some body) (Some revno) (Some queue) (Some remove) =
     Some (record { body = body; revno = revno; queue = queue; remove = remove })
 doc_with _ _ _ _ = None
 
-abbrev pub doc_under : Key → Value → Option DocCell
+unfoldable pub doc_under : Key → Value → Option DocCell
 doc_under key value =
     doc_with (result_ok (body_in key.d (without_own (out-Value value))))
     (revno_in (part (codes "txn-revno") value)) (queue_in (part (codes "txn-queue") value))
@@ -81,7 +82,7 @@ abbrev pub named_doc : Key → Option DocCell → Option Named
 named_doc key found =
     option_map (λ doc. record { name = name.Doc key; cell = cell.Doc doc }) found
 
-abbrev pub doc_in : Value → Value → Option Named
+unfoldable pub doc_in : Value → Value → Option Named
 doc_in c value =
     option_and_then (λ key. named_doc key (doc_under key value))
     (doc_key_in c (part (codes "_id") value))
@@ -108,7 +109,7 @@ abbrev pub named_stash : Key → Option StashCell → Option Named
 named_stash key found =
     option_map (λ stash. record { name = name.Stash key; cell = cell.Stash stash }) found
 
-abbrev pub stash_in : Value → Option Named
+unfoldable pub stash_in : Value → Option Named
 stash_in value =
     if has_only is_stash_name (out-Value value)
     then option_and_then (λ key. named_stash key (stash_cell_in value))
@@ -154,7 +155,7 @@ cell_of_fields (c ∷ kind ∷ is ∷ []) =
     then doc_in c.value is.value else None
 cell_of_fields _ = None
 
-abbrev pub cell_in : Value → Option Named
+unfoldable pub cell_in : Value → Option Named
 cell_in value = cell_of_fields (fields_in (out-Value value))
 
 -- the cell that a line is

@@ -1,12 +1,11 @@
 //! What the parts of a cell are read as.
-ghost use Rattle.std.specs.Prelude.{◌≡◌, ◌≢◌, map, Err, IfOk};
+ghost use Rattle.std.specs.Prelude.{◌≡◌, ◌≢◌, map, Err};
 ghost use Rattle.std.specs.Option.{option_copied};
-ghost use Rattle.std.specs.Result.{result_ok};
 ghost use Rattle.doc_value.specs.declared.value.Value.{out-Value};
-ghost use Rattle.txn_key.specs.Ids.{id_of, token_of};
+ghost use Rattle.txn_key.specs.Ids.{id_of};
 ghost use Rattle.txn_key.specs.Syntax.{key_in};
 ghost use Rattle.cell_text.specs.Syntax.{or_bad};
-ghost use Rattle.cell_text.specs.Parts.{all_read, counter_in, info_in, key_object_in, key_of_fields, list_in, mark_in, needed, nonce_in, number_in, ops_there, queue_in, revno_in, revnos_in, state_in, state_with, text_in};
+ghost use Rattle.cell_text.specs.Parts.{all_read, counter_in, info_in, key_object_in, key_of_fields, mark_in, needed, nonce_in, number_in, ops_there, queue_in, revno_in, revnos_in, state_in, text_in, token_in};
 
 use crate::fault::CellFault;
 use crate::fields::is_named;
@@ -151,7 +150,7 @@ pub(crate) fn read_queue(alloc: Global, value: Option<&Value>) -> Result<Tokens,
 
 fn read_tokens(alloc: Global, values: &[Value]) -> Result<Tokens, CellFault>
     ensures { result ≢ Err CellFault.OutOfMemory
-        → result ≡ or_bad (all_read (map (λ value. text_in token_of (out-Value value)) values.now)) }
+        → result ≡ or_bad (all_read (map (λ value. token_in (out-Value value)) values.now)) }
 {
     let mut tokens = Items::new(alloc);
     for value in values {
@@ -160,8 +159,9 @@ fn read_tokens(alloc: Global, values: &[Value]) -> Result<Tokens, CellFault>
     Ok(tokens)
 }
 
+#[tactic(auto, unfolding(crate::specs::Parts::token_in))]
 fn read_token(value: &Value) -> Result<Token, CellFault>
-    ensures { result ≡ or_bad (text_in token_of (out-Value value.now)) }
+    ensures { result ≡ or_bad (token_in (out-Value value.now)) }
 {
     match value {
         Value::Text(text) => Token::read(text.as_bytes()).ok_or(CellFault::Bad),

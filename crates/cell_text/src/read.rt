@@ -5,7 +5,7 @@ ghost use Rattle.std.specs.Option.{option_copied};
 ghost use Rattle.doc_value.specs.declared.value.Value.{out-Value};
 ghost use Rattle.cell_text.specs.Fields.{fields_in, has_only};
 ghost use Rattle.cell_text.specs.Parts.{text_in};
-ghost use Rattle.cell_text.specs.Syntax.{cell_in, cell_of_fields, doc_in, doc_key_in, doc_under, is_doc_kind, is_own_name, is_record_name, is_stash_name, named_nonce, named_record, nonce_of_fields, of_kind_in, or_bad, record_in, stash_cell_in, stash_in, without_own};
+ghost use Rattle.cell_text.specs.Syntax.{cell_in, cell_of_fields, doc_in, doc_key_in, doc_under, is_doc_kind, is_own_name, is_record_name, is_stash_name, named_nonce, named_record, nonce_of_fields, of_kind_in, or_bad, record_in, record_of, stash_cell_in, stash_in, without_own};
 
 use crate::fault::CellFault;
 use crate::fields::is_named;
@@ -21,6 +21,7 @@ use txn_key::Key;
 use txn_record::Record;
 
 /// The cell that the value is, under its name.
+#[tactic(auto, unfolding(crate::specs::Syntax::cell_in))]
 pub fn read_cell_text(alloc: Global, value: &Value) -> Result<Named, CellFault>
     ensures { result ≢ Err CellFault.OutOfMemory → result ≡ or_bad (cell_in value.now) }
 {
@@ -64,12 +65,17 @@ fn read_kind(alloc: Global, kind: &Value, is: &Value) -> Result<Named, CellFault
     let Value::Text(kind) = kind else {
         return Err(CellFault::Bad);
     };
-    match kind.as_bytes() {
-        b"record" => read_record(alloc, is),
-        b"stash" => read_stash(alloc, is),
-        b"nonce" => read_nonce(is),
-        _ => Err(CellFault::Bad),
+    let kind = kind.as_bytes();
+    if kind == b"record".as_slice() {
+        return read_record(alloc, is);
     }
+    if kind == b"stash".as_slice() {
+        return read_stash(alloc, is);
+    }
+    if kind == b"nonce".as_slice() {
+        return read_nonce(is);
+    }
+    Err(CellFault::Bad)
 }
 
 fn read_record(alloc: Global, is: &Value) -> Result<Named, CellFault>
@@ -79,23 +85,30 @@ fn read_record(alloc: Global, is: &Value) -> Result<Named, CellFault>
     if !has_record_fields(is) {
         return Err(CellFault::Bad);
     }
+    let record = read_record_parts(alloc, is)?;
+    Ok(Named {
+        name: Name::Record(record.id),
+        cell: Cell::Record(record),
+    })
+}
+
+#[tactic(auto, unfolding(crate::specs::Syntax::record_of))]
+fn read_record_parts(alloc: Global, is: &Value) -> Result<Record, CellFault>
+    ensures { result ≢ Err CellFault.OutOfMemory → result ≡ or_bad (record_of is.now) }
+{
     let id = read_id(is.field(b"_id"))?;
     let info = read_info(alloc, is.field(b"i"))?;
     let nonce = read_record_nonce(is.field(b"n"))?;
     let ops = read_ops(alloc, is.field(b"o"))?;
     let revnos = read_revnos(alloc, is.field(b"r"))?;
     let state = read_state(is.field(b"s"))?;
-    let record = Record {
+    Ok(Record {
         id,
         state,
         info,
         ops,
         nonce,
         revnos,
-    };
-    Ok(Named {
-        name: Name::Record(id),
-        cell: Cell::Record(record),
     })
 }
 
@@ -130,6 +143,7 @@ fn is_record_name(name: &[u8]) -> bool
         || name == b"s".as_slice()
 }
 
+#[tactic(auto, unfolding(crate::specs::Syntax::doc_in))]
 fn read_doc(alloc: Global, c: &Value, is: &Value) -> Result<Named, CellFault>
     ensures { result ≢ Err CellFault.OutOfMemory → result ≡ or_bad (doc_in c.now is.now) }
 {
@@ -151,6 +165,7 @@ fn read_doc_key(alloc: Global, c: &Value, id: Option<&Value>) -> Result<Key, Cel
     }
 }
 
+#[tactic(auto, unfolding(crate::specs::Syntax::doc_under))]
 fn read_doc_cell(alloc: Global, key: &Key, is: &Value) -> Result<DocCell, CellFault>
     ensures { result ≢ Err CellFault.OutOfMemory → result ≡ or_bad (doc_under key.now is.now) }
 {
@@ -203,6 +218,7 @@ fn is_own_name(name: &[u8]) -> bool
         || name == b"txn-revno".as_slice()
 }
 
+#[tactic(auto, unfolding(crate::specs::Syntax::stash_in))]
 fn read_stash(alloc: Global, is: &Value) -> Result<Named, CellFault>
     ensures { result ≢ Err CellFault.OutOfMemory → result ≡ or_bad (stash_in is.now) }
 {

@@ -76,7 +76,7 @@ stop_each_once (stop ∷ stops) = not (has_stop stop.runner stops) && stop_each_
 abbrev pub if_each_once : List Stop → Option (List Stop)
 if_each_once stops = if stop_each_once stops then Some stops else None
 
-abbrev pub stops_in : ℕ → Value-F Value → Option (List Stop)
+unfoldable pub stops_in : ℕ → Value-F Value → Option (List Stop)
 stops_in runners (Value-F.List values) = option_and_then if_each_once (stops_of runners values)
 stops_in runners _ = None
 
@@ -92,14 +92,14 @@ abbrev pub part : List ℕ → Value → Option Value
 part name value = field_in name (out-Value value)
 
 -- the plan of so many runners, from what is left of the value
-abbrev pub plan_of : Value → ℕ → Option GoPlan
+unfoldable pub plan_of : Value → ℕ → Option GoPlan
 plan_of value runners =
     plan_with runners (if_there 0 count_in (part (codes "seed") value))
     (if_there [] (stops_in runners) (part (codes "stops") value))
     (if_there true truth_in (part (codes "finish") value))
 
 -- one runner with the seed 0, no stops, and a finishing pass, where nothing else is said
-abbrev pub plan_in : Value → Option GoPlan
+unfoldable pub plan_in : Value → Option GoPlan
 plan_in value =
     if has_plan_fields (out-Value value)
     then option_and_then (plan_of value) (if_there 1 runners_in (part (codes "runners") value))

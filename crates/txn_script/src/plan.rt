@@ -34,6 +34,7 @@ pub struct GoPlan {
 impl GoPlan {
     /// The plan that the value is: an object of `runners`, `seed`, `stops` and `finish`, each of which may be
     /// left out. Any other value is a bad statement.
+    #[tactic(auto, unfolding(crate::specs::Plans::plan_in))]
     pub fn read(alloc: Global, value: &Value) -> Result<GoPlan, ScriptFault>
         ensures { result ≢ Err ScriptFault.OutOfMemory
             → result ≡ or_fault ScriptFault.BadStatement (plan_in value.now) }
@@ -89,6 +90,7 @@ fn is_plan_name(name: &[u8]) -> bool
 }
 
 /// The plan of so many runners, from what is left of the value.
+#[tactic(auto, unfolding(crate::specs::Plans::plan_of))]
 fn read_plan(alloc: Global, value: &Value, runners: u32) -> Result<GoPlan, ScriptFault>
     ensures { result ≢ Err ScriptFault.OutOfMemory
         → result ≡ or_fault ScriptFault.BadStatement (plan_of value.now runners) }
@@ -147,6 +149,7 @@ fn read_finish(value: Option<&Value>) -> Result<bool, ScriptFault>
 }
 
 /// Stops of so many runners, each at most once.
+#[tactic(auto, unfolding(crate::specs::Plans::stops_in))]
 fn read_stops(
     alloc: Global,
     runners: u32,
