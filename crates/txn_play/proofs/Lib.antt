@@ -1,3 +1,4 @@
+pub mod Attending
 pub mod BatchRuns
 pub mod Batches
 pub mod Causing
