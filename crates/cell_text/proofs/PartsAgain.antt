@@ -118,6 +118,7 @@ key_again key is = by key.d is.id
   where
     named : collection_of (out-Value (Text key.c)) ≡ Some key.c
     named = ap collection_of (text_layer key.c) ∙ ap (λ (b : Bool). if b then Some key.c else None) is.collection
+
     by : (d : DocId) → is_doc_id d ≡ true → key_in (Text key.c) (id_value d) ≡ Some (record { c = key.c; d = d })
     by (doc_id.Text text) h =
         ap (option_and_then (λ name. key_with name (doc_id_of (out-Value (Text text))))) named

@@ -338,7 +338,10 @@ static COUNTED: [(&str, usize, &str); 4] = [
 static PLANS: [(&str, &str); 33] = [
     ("{}", "1 0 true"),
     (r#"{"runners":16}"#, "16 0 true"),
-    (r#"{"seed":9223372036854775807}"#, "1 9223372036854775807 true"),
+    (
+        r#"{"seed":9223372036854775807}"#,
+        "1 9223372036854775807 true",
+    ),
     (r#"{"finish":false}"#, "1 0 false"),
     (r#"{"finish":true,"stops":[]}"#, "1 0 true"),
     (r#"{"stops":[[0,0]]}"#, "1 0 true 0:0"),
@@ -384,7 +387,11 @@ fn shown(alloc: Global, statement: Statement) -> Result<String, Fail> {
     let kind = match statement {
         Statement::Doc { .. } => "doc",
         Statement::Place { name, cell } => {
-            return Ok(String::from_utf8(print_cell(alloc, &Named { name, cell })?).ok().ok_or("text")?);
+            return Ok(
+                String::from_utf8(print_cell(alloc, &Named { name, cell })?)
+                    .ok()
+                    .ok_or("text")?,
+            );
         }
         Statement::Submit { info: None, .. } => "submit",
         Statement::Submit { .. } => "submit with info",

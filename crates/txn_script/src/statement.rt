@@ -178,10 +178,12 @@ fn read_fields(alloc: Global, fields: &[Field]) -> Result<Statement, ScriptFault
 fn read_field(alloc: Global, field: &Field) -> Result<Statement, ScriptFault>
     ensures { result ≢ Err ScriptFault.OutOfMemory → result ≡ statement_of_one field.now }
 {
-    match field.name.as_bytes() {
-        b"go" => read_go(alloc, &field.value),
-        b"resume" => read_resume(&field.value),
-        name => read_word(name, &field.value),
+    if is_named(field, b"go") {
+        read_go(alloc, &field.value)
+    } else if is_named(field, b"resume") {
+        read_resume(&field.value)
+    } else {
+        read_word(field.name.as_bytes(), &field.value)
     }
 }
 
@@ -313,13 +315,19 @@ fn read_word(name: &[u8], value: &Value) -> Result<Statement, ScriptFault>
 fn word(name: &[u8]) -> Option<Statement>
     ensures { result ≡ word_in name.now }
 {
-    match name {
-        b"prune" => Some(Statement::Prune),
-        b"purge" => Some(Statement::Purge),
-        b"audit" => Some(Statement::Audit),
-        b"show" => Some(Statement::Show),
-        b"export" => Some(Statement::Export),
-        b"order" => Some(Statement::Order),
-        _ => None,
+    if name == b"prune".as_slice() {
+        Some(Statement::Prune)
+    } else if name == b"purge".as_slice() {
+        Some(Statement::Purge)
+    } else if name == b"audit".as_slice() {
+        Some(Statement::Audit)
+    } else if name == b"show".as_slice() {
+        Some(Statement::Show)
+    } else if name == b"export".as_slice() {
+        Some(Statement::Export)
+    } else if name == b"order".as_slice() {
+        Some(Statement::Order)
+    } else {
+        None
     }
 }
