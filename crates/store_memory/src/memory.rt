@@ -182,8 +182,8 @@ impl MemoryStore {
         Ok(Edited { hit: false, cell })
     }
 
-    /// Puts the cell that an edit makes under a name. One that stands there is left, so that the log
-    /// has no more than the changes.
+    /// Puts the cell that an edit makes under a name. Where it stands there, nothing is written or
+    /// logged: the log has no more than the changes.
     fn put(
         &mut self,
         alloc: Global,

@@ -1,8 +1,7 @@
 -- Calls on a store, one after another.
-use Rattle.std.proofs.Common.{ℕ, ◌≤◌, Result, Ok, Err, Bool, ⊎_elim, inl, inr, ◌∙◌, arith}
+use Rattle.std.proofs.Common.{ℕ, ◌≤◌, Result, Ok, Err, ⊎_elim, inl, inr, ◌∙◌, arith}
 use Rattle.store_trait.specs.Calls.{Rose}
 use Rattle.store_trait.specs.Stores.{CallsGoOn, OneCall}
-use Rattle.store_trait.specs.Contents.{Content}
 use Rattle.store_trait.specs.declared.store.Store.{Ghosts}
 
 -- calls on a store, and then more

@@ -1,8 +1,7 @@
 -- Calls that only read, one after another.
-use Rattle.std.proofs.Common.{◌≡◌, ℕ, Bool, ◌+◌, ◌≤◌, IsTrue, Result, Ok, Err, ◌⊎◌, ⊎_elim, inl, inr, refl, sym, ap, ◌∙◌, arith}
+use Rattle.std.proofs.Common.{◌≡◌, ℕ, ◌+◌, ◌≤◌, IsTrue, Result, Ok, Err, ◌⊎◌, ⊎_elim, inl, inr, refl, sym, ap, ◌∙◌, arith}
 use Rattle.store_trait.specs.Calls.{GoesOn}
 use Rattle.store_trait.specs.Stores.{OneCall}
-use Rattle.store_trait.specs.Contents.{Content}
 use Rattle.txn_runner.specs.Running.{OnlyReads}
 use Rattle.store_trait.specs.declared.store.Store.{Ghosts}
 

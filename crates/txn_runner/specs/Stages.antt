@@ -1,6 +1,5 @@
 use Rattle.std.specs.Prelude.{◌≡◌, ℕ, Bool, true, IsTrue, List, Result, Ok, Err}
 use Rattle.txn_record.specs.declared.entry.Entry.{Entry}
-use Rattle.store_trait.specs.Calls.{Exchange}
 use Rattle.store_trait.specs.Stores.{CallsGoOn}
 use Rattle.store_trait.specs.Contents.{Content}
 use Rattle.txn_record.specs.declared.op.Op.{Op}

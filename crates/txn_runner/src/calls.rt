@@ -100,12 +100,20 @@ pub fn make_decision<S: Store>(
     outcome: Outcome,
     revnos: &[i64],
 ) -> Result<(), StepError>
-    ensures made { IsTrue S.tells → OnOk result (S.content store.new ≡ edited (S.content store.old) (Name.Record id) (deciding outcome revnos.now)) }
-    ensures left { IsTrue S.tells → is_some (hit (deciding outcome revnos.now) (Name.Record id) (get (S.content store.old) (Name.Record id))) ≡ true →
+    ensures made { IsTrue S.tells → OnOk result (S.content store.new ≡
+        edited (S.content store.old) (Name.Record id) (deciding outcome revnos.now)) }
+    ensures left { IsTrue S.tells →
+        is_some (hit (deciding outcome revnos.now) (Name.Record id)
+        (get (S.content store.old) (Name.Record id))) ≡ true →
         OnErr result (S.content store.new ≡ S.content store.old) }
-    ensures never { IsTrue S.tells → is_some (hit (deciding outcome revnos.now) (Name.Record id) (get (S.content store.old) (Name.Record id))) ≡ true → IfErr result IsOfStore }
-    ensures hit { OnOk result (AnsweredEdit S.Store store.old (Name.Record id) (deciding outcome revnos.now) true store.new) }
-    ensures cause { IfErr result (IsMissed S.Store store.old id (Name.Record id) (deciding outcome revnos.now) store.new) }
+    ensures never { IsTrue S.tells →
+        is_some (hit (deciding outcome revnos.now) (Name.Record id)
+        (get (S.content store.old) (Name.Record id))) ≡ true →
+        IfErr result IsOfStore }
+    ensures hit { OnOk result (AnsweredEdit S.Store store.old (Name.Record id)
+        (deciding outcome revnos.now) true store.new) }
+    ensures cause { IfErr result (IsMissed S.Store store.old id (Name.Record id)
+        (deciding outcome revnos.now) store.new) }
     ensures call { OneCall S.Store store.old store.new result StepError.StoreFault }
 {
     let change = deciding(alloc, outcome, revnos)?;

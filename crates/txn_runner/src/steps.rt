@@ -302,15 +302,21 @@ fn record_decision<S: Store>(
     outcome: Outcome,
     revnos: &[i64],
 ) -> Result<(), StepError>
-    ensures made { IsTrue S.tells → OnOk result (S.content store.new ≡ edited (S.content store.old) (Name.Record txn.now.id) (deciding outcome revnos.now)) }
+    ensures made { IsTrue S.tells → OnOk result (S.content store.new ≡
+        edited (S.content store.old) (Name.Record txn.now.id) (deciding outcome revnos.now)) }
     ensures added { OnOk result (order.new.items ≡ order.old.items
         ++ record { id = txn.now.id; ops = txn.now.ops; outcome = outcome; revnos = revnos.now; at = S.calls store.new } ∷ []) }
     ensures kept { OnErr result (order.new.items ≡ order.old.items) }
-    ensures left { IsTrue S.tells → is_some (hit (deciding outcome revnos.now) (Name.Record txn.now.id) (get (S.content store.old) (Name.Record txn.now.id))) ≡ true →
+    ensures left { IsTrue S.tells →
+        is_some (hit (deciding outcome revnos.now) (Name.Record txn.now.id)
+        (get (S.content store.old) (Name.Record txn.now.id))) ≡ true →
         OnErr result (S.content store.new ≡ S.content store.old) }
-    ensures never { IsTrue S.tells → is_some (hit (deciding outcome revnos.now) (Name.Record txn.now.id) (get (S.content store.old) (Name.Record txn.now.id))) ≡ true →
+    ensures never { IsTrue S.tells →
+        is_some (hit (deciding outcome revnos.now) (Name.Record txn.now.id)
+        (get (S.content store.old) (Name.Record txn.now.id))) ≡ true →
         IfErr result IsOfStore }
-    ensures cause { IfErr result (IsMissed S.Store store.old txn.now.id (Name.Record txn.now.id) (deciding outcome revnos.now) store.new) }
+    ensures cause { IfErr result (IsMissed S.Store store.old txn.now.id (Name.Record txn.now.id)
+        (deciding outcome revnos.now) store.new) }
     ensures call { OneCall S.Store store.old store.new result StepError.StoreFault }
 {
     let mut entry = entry_of(alloc, txn, outcome, revnos)?;

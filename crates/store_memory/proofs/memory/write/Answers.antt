@@ -1,4 +1,4 @@
-use Rattle.std.proofs.Common.{take, length, ap, ◌∙◌, rules, arith}
+use Rattle.std.proofs.Common.{arith}
 use Rattle.std.proofs.lemmas.Grind.{common_steps}
 use Rattle.std.proofs.lemmas.List.{take_all, take-append-le}
 use Rattle.store_memory.proofs.memory.write.Goals as goal
