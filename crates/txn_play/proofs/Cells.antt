@@ -9,7 +9,7 @@ use Rattle.std.specs.Ordering.{is_lt, ordering_reverse}
 use Rattle.std.specs.declared.cmp.Ordering.{Ordering}
 use Rattle.std.specs.declared.cmp.Ordering.TheVariants.{Less, Equal, Greater}
 use Rattle.std.proofs.lemmas.Cmp.{tied_itself}
-use Rattle.std.proofs.lemmas.List.{append-assoc, append-nil}
+use Rattle.std.proofs.lemmas.List.{append_assoc, append-nil}
 use Rattle.std.proofs.lemmas.Option.{same_Some}
 use Rattle.store_trait.proofs.NameOrder.{name_cmp_total}
 use Rattle.store_trait.specs.Contents.{Content, first_past, is_past, named}
@@ -64,22 +64,19 @@ below_itself x (e ∷ es) below =
 
 found_above : (after : Option Name) (x : Name) (es : List Entry) (e : Entry) → T (below_all name_cmp x es) → first after es ≡ Some e → name_cmp x e.0 ≡ Less
 found_above after x [] e below found = absurd (cc)
-found_above after x (y ∷ es) e below found = by (is_past after y.0) refl found
+found_above after x (y ∷ es) e below found = by (is_past after y.0) found (λ later. found_above after x es e (both _ _ below).1 later)
   where
-    parts : T (is_lt (name_cmp x y.0)) × T (below_all name_cmp x es)
-    parts = both _ _ below
-
-    by : (b : Bool) → is_past after y.0 ≡ b → cond b (Some y) (first after es) ≡ Some e → name_cmp x e.0 ≡ Less
-    by true is found = subst (λ (it : Entry). name_cmp x it.0 ≡ Less) (same_Some y e found) (less _ (true_of _ parts.0))
-    by false is found = found_above after x es e parts.1 found
+    by : (b : Bool) → cond b (Some y) (first after es) ≡ Some e → (first after es ≡ Some e → name_cmp x e.0 ≡ Less) → name_cmp x e.0 ≡ Less
+    by true found later = subst (λ (it : Entry). name_cmp x it.0 ≡ Less) (same_Some y e found) (less _ (true_of _ (both _ _ below).0))
+    by false found later = later found
 
 -- the first cell past a name, and those past it
 pub past_found : (after : Option Name) (es : List Entry) (e : Entry) → T (is_sorted name_cmp es) → first after es ≡ Some e → past after es ≡ e ∷ past (Some e.0) es
 past_found after [] e rise found = absurd (cc)
-past_found after (x ∷ es) e rise found = by (is_past after x.0) refl found
+past_found after (x ∷ es) e rise found = by (is_past after x.0) refl found (λ later. past_found after es e (both _ _ rise).1 later)
   where
-    parts : T (below_all name_cmp x.0 es) × T (is_sorted name_cmp es)
-    parts = both _ _ rise
+    below : T (below_all name_cmp x.0 es)
+    below = (both _ _ rise).0
 
     not_past_itself : past (Some x.0) (x ∷ es) ≡ past (Some x.0) es
     not_past_itself = ap (λ (r : Ordering). cond (is_lt r) (x ∷ past (Some x.0) es) (past (Some x.0) es)) (tied_itself name_cmp_total x.0)
@@ -87,22 +84,23 @@ past_found after (x ∷ es) e rise found = by (is_past after x.0) refl found
     here : (b : Bool) → is_past after x.0 ≡ b → past after (x ∷ es) ≡ cond b (x ∷ past after es) (past after es)
     here b is = ap (λ (t : Bool). cond t (x ∷ past after es) (past after es)) is
 
-    by : (b : Bool) → is_past after x.0 ≡ b → cond b (Some x) (first after es) ≡ Some e → past after (x ∷ es) ≡ e ∷ past (Some e.0) (x ∷ es)
-    by true is found = subst (λ (it : Entry). past after (x ∷ es) ≡ it ∷ past (Some it.0) (x ∷ es)) (same_Some x e found)
-        (here true is ∙ ap (λ (rest : List Entry). x ∷ rest) (all_past after x.0 es is parts.0 ∙ sym (below_itself x.0 es parts.0) ∙ sym not_past_itself))
-    by false is found =
-        let above = found_above after x.0 es e parts.0 found in
+    by : (b : Bool) → is_past after x.0 ≡ b → cond b (Some x) (first after es) ≡ Some e → (first after es ≡ Some e → past after es ≡ e ∷ past (Some e.0) es)
+        → past after (x ∷ es) ≡ e ∷ past (Some e.0) (x ∷ es)
+    by true is found later = subst (λ (it : Entry). past after (x ∷ es) ≡ it ∷ past (Some it.0) (x ∷ es)) (same_Some x e found)
+        (here true is ∙ ap (λ (rest : List Entry). x ∷ rest) (all_past after x.0 es is below ∙ sym (below_itself x.0 es below) ∙ sym not_past_itself))
+    by false is found later =
+        let above = found_above after x.0 es e below found in
         let turned : name_cmp e.0 x.0 ≡ Greater = name_cmp_total.antisymm e.0 x.0 ∙ ap ordering_reverse above in
-        here false is ∙ past_found after es e parts.1 found ∙ ap (λ (rest : List Entry). e ∷ rest)
+        here false is ∙ later found ∙ ap (λ (rest : List Entry). e ∷ rest)
         (sym (ap (λ (r : Ordering). cond (is_lt r) (x ∷ past (Some e.0) es) (past (Some e.0) es)) turned))
 
 pub past_none : (after : Option Name) (es : List Entry) → first after es ≡ None → past after es ≡ []
 past_none after [] none = refl
-past_none after (x ∷ es) none = by (is_past after x.0) refl none
+past_none after (x ∷ es) none = by (is_past after x.0) refl none (λ later. past_none after es later)
   where
-    by : (b : Bool) → is_past after x.0 ≡ b → cond b (Some x) (first after es) ≡ None → past after (x ∷ es) ≡ []
-    by true is none = absurd (cc)
-    by false is none = ap (λ (t : Bool). cond t (x ∷ past after es) (past after es)) is ∙ past_none after es none
+    by : (b : Bool) → is_past after x.0 ≡ b → cond b (Some x) (first after es) ≡ None → (first after es ≡ None → past after es ≡ []) → past after (x ∷ es) ≡ []
+    by true is none later = absurd (cc)
+    by false is none later = ap (λ (t : Bool). cond t (x ∷ past after es) (past after es)) is ∙ later none
 
 past_nothing : (es : List Entry) → past None es ≡ es
 past_nothing [] = refl
@@ -125,7 +123,7 @@ pub lists_more : (c : Content) (after : Option Name) (cells : List Named) (found
     → IsListOf c (Some found.name) (cells ++ found ∷ [])
 lists_more c after cells found so is =
     let more = past_found after (entries c) (found.name, found.cell) (entries_sorted c) (opened (first_past after c) found is) in
-    so ∙ ap (λ (es : List Entry). cells ++ map named es) more ∙ sym (append-assoc cells (found ∷ []) (map named (past (Some found.name) (entries c))))
+    so ∙ ap (λ (es : List Entry). cells ++ map named es) more ∙ sym (append_assoc cells (found ∷ []) (map named (past (Some found.name) (entries c))))
 
 unfound : (o : Option Entry) → None ≡ option_map named o → o ≡ None
 unfound None e = refl

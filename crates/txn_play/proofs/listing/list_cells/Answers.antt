@@ -1,0 +1,35 @@
+use Rattle.std.proofs.Common.{Some, None, Option, rules, sym, subst, ap, inr, refl, ◌≡◌}
+use Rattle.std.proofs.lemmas.Result.{err_from_is_err_and}
+use Rattle.std.specs.Option.{option_map}
+use Rattle.store_trait.specs.Contents.{Content, first_past, named}
+use Rattle.store_trait.specs.declared.cell.Named.{Named}
+use Rattle.txn_runner.proofs.CallsMade.{call_after}
+use Rattle.txn_runner.proofs.OnlyReading.{reads_none, reads_call}
+use Rattle.txn_play.proofs.Cells.{lists_none, lists_more, lists_all}
+use Rattle.txn_play.proofs.listing.list_cells.Goals as goal
+
+pub loop-init : goal.loop-init
+loop-init g c = rw c.new-cells.ensures (record {
+  listed = λ told. lists_none (g.S.Store.content c.args.store.now);
+  reads = λ told. reads_none g.S.Store _ (g.met.S.Store.present _ told);
+  go_on = search rules;
+})
+
+pub loop-preserved : goal.loop-preserved
+loop-preserved g c = rw (c.in_ok-push-in-Some.ensures.ok, c.in_ok-copy-in-Some.ensures) (record {
+  listed = λ told.
+      let found = subst (λ (held : Content). Some c.in-Some.named ≡ option_map named (first_past c.loop.after held)) ((c.loop.invariant.reads told).same) (rw (c.in-Some.is, c.as_ref.ensures.value) at (c.in_ok-named.ensures.found told)) in
+      lists_more (g.S.Store.content c.args.store.now) c.loop.after c.loop.cells c.in-Some.named (c.loop.invariant.listed told) found;
+  reads = λ told. reads_call _ _ _ _ _ _ told (g.met.S.Store.present _ told) (c.loop.invariant.reads told) c.in_ok-named.ensures.call (c.in_ok-named.ensures.same told);
+  go_on = call_after _ _ _ _ _ _ c.loop.invariant.go_on c.in_ok-named.ensures.call;
+})
+
+pub returns-in-None-clause-listed : goal.returns-in-None-clause-listed
+returns-in-None-clause-listed g c = λ told.
+    let found = subst (λ (held : Content). None ≡ option_map named (first_past c.loop.after held)) ((c.loop.invariant.reads told).same) (rw (c.in-None.is, c.as_ref.ensures.value) at (c.in_ok-named.ensures.found told)) in
+    lists_all (g.S.Store.content c.args.store.now) c.loop.after c.loop.cells (c.loop.invariant.listed told) found
+
+pub returns-in_err-copy-in-Some-clause-kept : goal.returns-in_err-copy-in-Some-clause-kept
+returns-in_err-copy-in-Some-clause-kept g c =
+    let p = err_from_is_err_and c.from_residual-in_err-copy-in-Some.result c.from_residual-in_err-copy-in-Some.ensures.1 in
+    rw (p.1, p.2) (record { calls = call_after _ _ _ _ _ _ c.loop.invariant.go_on c.in_ok-named.ensures.call; fault = λ e. absurd (cc); other = inr refl })

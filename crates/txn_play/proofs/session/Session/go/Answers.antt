@@ -1,0 +1,12 @@
+use Rattle.std.proofs.Common.{refl}
+use Rattle.txn_play.proofs.session.Session.go.Goals as goal
+
+pub returns-clause-done : goal.returns-clause-done
+returns-clause-done g c = λ told. record {
+  states = c.in_ok-states.states;
+  ran = rw c.as_slice.ensures.list at (c.in_ok-states.ensures.done told);
+  answers = refl;
+  none_waits = c.clear.ensures;
+  begun = refl;
+  alone = refl;
+}
