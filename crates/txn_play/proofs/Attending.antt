@@ -1,20 +1,42 @@
 -- What a call for one statement comes to: what is against it, and how it is refused.
-use Rattle.std.proofs.Common.{◌≡◌, ◌⊎◌, Bool, true, false, not, ◌&&◌, cond, List, [], Option, Some, None, Result, Ok, Err, IsTrue, IfErr, IsErrOf, ⊎_elim, refl, sym, ap, ◌∙◌, subst}
+use Rattle.std.proofs.Common.{◌≡◌, ◌⊎◌, Bool, true, false, not, ◌&&◌, cond, nat_le, length, List, [], Option, Some, None, Result, Ok, Err, IsTrue, IfErr, IsErrOf, ⊎_elim, inl, inr, refl, sym, ap, ◌∙◌, subst}
+use Rattle.std.specs.FinMap.{insert}
+use Rattle.std.specs.Prelude.{IfOk, OnOk, OnErr}
+use Rattle.doc_value.specs.declared.value.Value.{Value}
+use Rattle.txn_key.specs.declared.key.Key.{Key}
 use Rattle.store_trait.specs.Calls.{Rose}
+use Rattle.store_trait.specs.Stores.{CallsGoOn}
+use Rattle.store_trait.specs.declared.cell.Cell.{Cell}
+use Rattle.store_trait.specs.declared.name.Name.{Name}
+use Rattle.store_trait.specs.declared.name.Name.TheVariants as name
+use Rattle.store_trait.specs.declared.store.StoreError.{StoreError}
+use Rattle.store_trait.specs.declared.store.StoreError.TheVariants as store_error
 use Rattle.store_trait.specs.Contents.{Content}
 use Rattle.store_trait.specs.declared.store.Store.{Ghosts}
+use Rattle.txn_key.specs.declared.id.TxnId.{TxnId}
+use Rattle.txn_record.specs.declared.op.Op.{Op}
+use Rattle.txn_runner.specs.Calm.{IsCalm}
+use Rattle.txn_runner.specs.Store.{has_record}
 use Rattle.txn_runner.specs.declared.waiting.Waiting.{Waiting}
 use Rattle.txn_script.specs.declared.statement.Statement.{Statement}
-use Rattle.txn_play.specs.Progress.{Progress, against, is_nothing, lets_run, objection_at_end, objection_to, unless_alone}
-use Rattle.txn_play.specs.Refusals.{CallsAlone, HasCause, HasReason, IsOfRun, IsUnspent}
+use Rattle.txn_script.specs.declared.statement.Statement.TheVariants as statement
+use Rattle.txn_play.specs.Batches.{waits}
+use Rattle.txn_play.specs.Progress.{Progress, against, against_placing, against_waiting, is_nothing, may_settle, most_waiting, lets_run, objection_at_end, objection_to, placed_doc, runs_batch, unless_alone}
+use Rattle.txn_play.specs.Refusals.{CallsAlone, HasCause, HasReason, IsOfRun, IsUnspent, refusal_of_store}
 use Rattle.txn_play.specs.Remains.{HasLeft, Stays}
-use Rattle.txn_play.specs.Sessions.{HasEnough, IsAgainst, IsCaused, IsRefused, at, holding}
+use Rattle.txn_play.specs.Runs.{RunsGoOn}
+use Rattle.txn_play.specs.Sessions.{HasAttended, HasEnough, IsAgainst, IsCaused, IsKept, IsRefused, Stands, at, holding}
+use Rattle.txn_play.specs.declared.answer.Answer.{Answer}
+use Rattle.txn_play.specs.declared.answer.Answer.TheVariants.{Nothing}
 use Rattle.txn_play.specs.declared.objection.Objection.{Objection}
 use Rattle.txn_play.specs.declared.objection.Objection.TheVariants as objection
 use Rattle.txn_play.specs.declared.refusal.Refusal.{Refusal}
 use Rattle.txn_play.specs.declared.refusal.Refusal.TheVariants as refusal
+use Rattle.txn_play.specs.declared.run.Run.{Run}
 use Rattle.txn_play.specs.declared.session.Session.{Session}
+use Rattle.txn_runner.proofs.CallsMade.{calls_then, rose_before}
 use Rattle.txn_play.proofs.BatchRuns.{stays_left}
+use Rattle.txn_play.proofs.Sessions.{no_run_yet, placing_stands}
 
 -- where nothing waits, a statement is looked at at once
 pub nothing_first : (p : Progress) (s : Statement) → p.waiting ≡ [] → objection_to p s ≡ against p s
@@ -30,6 +52,17 @@ none_first p s lets = ap (λ (b : Bool). cond (b && not (is_nothing p.waiting)) 
 
 pub alone_may : (p : Progress) → p.documents_alone ≡ true → unless_alone p ≡ None
 alone_may p alone = ap (λ (b : Bool). cond b None (Some objection.NotBuilt)) alone
+
+-- what stands against a transaction where fewer than 10,000 wait, and none of its id
+pub against_submitted : (p : Progress) (id : TxnId) (ops : List Op) (found : Option Objection) → nat_le most_waiting (length p.waiting) ≡ false → waits p.waiting id ≡ false
+    → found ≡ cond (has_record p.content id) (Some objection.IdExists) (cond (may_settle p.content ops) None (Some objection.NotBuilt)) → against_waiting p id ops ≡ found
+against_submitted p id ops found full none is = rw (full, none) (sym is)
+
+-- the parts of that, where nothing does
+pub nothing_against : (recorded settles : Bool) → None ≡ cond recorded (Some objection.IdExists) (cond settles None (Some objection.NotBuilt)) → (recorded ≡ false) × (settles ≡ true)
+nothing_against true settles e = absurd (cc)
+nothing_against false true e = (refl, refl)
+nothing_against false false e = absurd (cc)
 
 -- the refusal of a batch that runs is by no objection
 pub of_run_against : (o : Option Objection) (why : Refusal) → IsOfRun why → IsAgainst o why
@@ -74,3 +107,92 @@ objected_refused store may_run old new why same runs = record {
   left = λ told. record { holds = same told; runs = runs };
   caused = record { fault = λ e. absurd (cc); reason = λ told. tt; enough = λ told enough. tt; cause = tt };
 }
+
+-- nor does want of memory
+pub memory_refused : {S : Type 0} (store : Ghosts S) (may_run : Bool) (old new : Session S)
+    → (IsTrue store.tells → store.content new.store ≡ store.content old.store) → new.runs.items ≡ old.runs.items → IsRefused store may_run old new refusal.OutOfMemory
+memory_refused store may_run old new same runs = record {
+  left = λ told. inl (record { holds = same told; runs = runs });
+  caused = record { fault = λ e. absurd (cc); reason = λ told. tt; enough = λ told enough. tt; cause = tt };
+}
+
+-- how a store's refusal of a call refuses the statement
+pub store_failed : {S T A : Type 0} (store : Ghosts S) (old new : S) (error : StoreError) → CallsGoOn store old new
+    → (IsErrOf {T = A} (Err error) store_error.Failed → Rose (store.faults old) (store.faults new)) → CallsAlone {T = T} store old new (Err (refusal_of_store error))
+store_failed store old new store_error.Failed on rose = record { calls = on; fault = λ e. rose refl; other = inl refl }
+store_failed store old new store_error.OutOfMemory on rose = record { calls = on; fault = λ e. absurd (cc); other = inr refl }
+
+-- calls on the store, and then a few that were refused
+pub calls_after : {S T U : Type 0} (store : Ghosts S) (a b c : S) (why : Refusal) → CallsGoOn store a b → CallsAlone {T = T} store b c (Err why) → CallsAlone {T = U} store a c (Err why)
+calls_after store a b c refusal.Store on h = record { calls = calls_then store a b c on h.calls; fault = λ e. rose_before on.later (h.fault refl); other = inl refl }
+calls_after store a b c refusal.OutOfMemory on h = record { calls = calls_then store a b c on h.calls; fault = λ e. absurd (cc); other = inr refl }
+calls_after store a b c (refusal.Objected w) on h = absurd (⊎_elim (λ e. cc) (λ e. cc) h.other)
+calls_after store a b c (refusal.Spent x) on h = absurd (⊎_elim (λ e. cc) (λ e. cc) h.other)
+calls_after store a b c (refusal.Broken x) on h = absurd (⊎_elim (λ e. cc) (λ e. cc) h.other)
+calls_after store a b c (refusal.Repeated x) on h = absurd (⊎_elim (λ e. cc) (λ e. cc) h.other)
+
+-- ---- a cell is placed
+
+module _ {S : Type 0} (store : Ghosts S) (old new : Session S) (stands : Stands store old) (cleared : old.batch ≡ []) (under : Name) (cell : Cell)
+    (batch : new.batch ≡ old.batch) (begun : new.begun ≡ old.begun) (runs : new.runs.items ≡ old.runs.items) (calls : CallsGoOn store old.store new.store) where
+  -- nothing was placed
+  pub placing_refused : (s : Statement) (why : Refusal) → against (at store old) s ≡ against_placing (at store old) under cell
+      → (IsTrue store.tells → IsAgainst (against_placing (at store old) under cell) why) → (IsTrue store.tells → store.content new.store ≡ store.content old.store)
+      → (old.begun ≡ true → new.store ≡ old.store) → IsCaused store old new why → HasAttended store s old new (Err why)
+  placing_refused s why is objected left idle caused = record {
+    done = λ told. tt;
+    against = λ told. subst (λ (o : Option Objection). IsAgainst o why) (sym (nothing_first (at store old) s cleared ∙ is)) (objected told);
+    refused = record {
+      left = λ told. stays_left (runs_batch s) old.batch (store.trail new.store) (holding store old) (holding store new) why (record { holds = left told; runs = runs });
+      caused = caused;
+    };
+    kept = record { stands = tt; runs = λ told. by old.begun refl (stands told).runs told; calls = calls };
+  }
+    where
+      by : (b : Bool) → old.begun ≡ b → RunsGoOn (store.trail old.store) old.runs.items (store.calls old.store) → IsTrue store.tells → RunsGoOn (store.trail new.store) new.runs.items (store.calls new.store)
+      by true e going told =
+          subst (λ (s : S). RunsGoOn (store.trail s) new.runs.items (store.calls s)) (sym (idle e))
+          (subst (λ (rs : List Run). RunsGoOn (store.trail old.store) rs (store.calls old.store)) (sym runs) going)
+      by false e going told = no_run_yet store old new (stands told) e runs
+
+  -- it was
+  pub placing_kept : {E : Type 0} (said : Answer) → old.begun ≡ false → (IsTrue store.tells → IsTrue new.documents_alone → IsCalm (store.content new.store)) → IsKept {E = E} store old new (Ok said)
+  placing_kept said unbegun calm = record {
+    stands = λ told. placing_stands store old new (stands told) unbegun begun batch runs (calm told);
+    runs = λ told. no_run_yet store old new (stands told) unbegun runs;
+    calls = calls;
+  }
+
+  pub placing_doc : (key : Key) (body : Value) → under ≡ name.Doc key → cell ≡ placed_doc body → old.begun ≡ false → new.documents_alone ≡ old.documents_alone
+      → (IsTrue store.tells → (against_placing (at store old) under cell ≡ None) × (store.content new.store ≡ insert (store.content old.store) under cell))
+      → (IsTrue store.tells → IsTrue new.documents_alone → IsCalm (store.content new.store)) → HasAttended store (statement.Doc key body) old new (Ok Nothing)
+  placing_doc key body is_under is_cell unbegun alone placed calm = record {
+    done = λ told.
+        let it = placed told in
+        let here : store.content new.store ≡ insert (store.content old.store) (name.Doc key) (placed_doc body) = it.1 ∙ (λ i. insert (store.content old.store) (is_under i) (is_cell i)) in
+        record {
+          allowed = nothing_first (at store old) (statement.Doc key body) cleared ∙ (λ i. against_placing (at store old) (sym is_under i) (sym is_cell i)) ∙ it.0;
+          performs = (λ i. record { content = here i; calls = store.calls new.store; waiting = batch i; begun = begun i; documents_alone = alone i; runs = runs i }, refl);
+        };
+    against = λ told. tt;
+    refused = tt;
+    kept = placing_kept Nothing unbegun calm;
+  }
+
+  pub placing_cell : old.begun ≡ false → new.documents_alone ≡ false
+      → (IsTrue store.tells → (against_placing (at store old) under cell ≡ None) × (store.content new.store ≡ insert (store.content old.store) under cell))
+      → HasAttended store (statement.Place under cell) old new (Ok Nothing)
+  placing_cell unbegun alone placed = record {
+    done = λ told.
+        let it = placed told in
+        record {
+          allowed = nothing_first (at store old) (statement.Place under cell) cleared ∙ it.0;
+          performs = (λ i. record { content = it.1 i; calls = store.calls new.store; waiting = batch i; begun = begun i; documents_alone = alone i; runs = runs i }, refl);
+        };
+    against = λ told. tt;
+    refused = tt;
+    kept = placing_kept Nothing unbegun (λ told lone. absurd (clash lone alone));
+  }
+    where
+      clash : {b : Bool} → b ≡ true → b ≡ false → ⊥
+      clash p q = cc

@@ -1,6 +1,6 @@
 -- What holds between two statements, kept by each.
-use Rattle.std.proofs.Common.{◌≡◌, ℕ, Bool, true, false, not, ◌&&◌, ◌||◌, List, [], ◌∷◌, ◌++◌, Option, Some, None, is_some, IsTrue, Err, arith, refl, sym, ap, ◌∙◌, subst, Ok}
-use Rattle.std.specs.FinMap.{get, empty}
+use Rattle.std.proofs.Common.{◌≡◌, ℕ, Bool, true, false, not, ◌&&◌, ◌||◌, List, [], ◌∷◌, ◌++◌, Option, Some, None, is_some, is_none, cond, IsTrue, Err, arith, refl, sym, ap, ◌∙◌, subst, Ok}
+use Rattle.std.specs.FinMap.{get, insert, empty}
 use Rattle.std.specs.List.{list_all}
 use Rattle.std.specs.Option.{option_and_then}
 use Rattle.std.proofs.lemmas.Bool.{and_parts}
@@ -13,7 +13,7 @@ use Rattle.store_trait.specs.Stores.{CallsGoOn}
 use Rattle.store_trait.specs.declared.store.Store.{Ghosts}
 use Rattle.store_trait.specs.Cells.{as_record}
 use Rattle.store_trait.specs.Contents.{Content}
-use Rattle.store_trait.specs.Edits.{hit, edited}
+use Rattle.store_trait.specs.Edits.{hit, hit_place, edited, put_under}
 use Rattle.store_trait.specs.Names.{same_id}
 use Rattle.store_laws.specs.View.{record_at}
 use Rattle.store_trait.specs.declared.cell.Cell.{Cell}
@@ -31,9 +31,12 @@ use Rattle.store_laws.proofs.cells.Records.{same_id-equal}
 use Rattle.txn_play.specs.Batches.{waits, are_distinct, Every, MayBegin, MayRun}
 use Rattle.txn_runner.specs.Calm.{IsCalm}
 use Rattle.txn_runner.specs.Running.{OnlyReads}
+use Rattle.txn_play.specs.Progress.{Progress, against_placing, placed_doc}
 use Rattle.txn_play.specs.Runs.{RunsGoOn}
 use Rattle.txn_play.specs.Sessions.{IsBetween, IsKept, Stands}
 use Rattle.txn_runner.specs.Store.{has_document, has_record}
+use Rattle.txn_play.specs.declared.objection.Objection.{Objection}
+use Rattle.txn_play.specs.declared.objection.Objection.TheVariants as objection
 use Rattle.txn_play.specs.declared.run.Run.{Run}
 use Rattle.txn_play.specs.declared.session.Session.{Session}
 use Rattle.txn_runner.specs.declared.waiting.Waiting.{Waiting}
@@ -114,6 +117,19 @@ place_calm c key body calm = by (is_some (hit (edit.Place (cell.Doc (new_doc bod
           plain = plain_place c key calm.plain body;
           rests = rest_same placed.later.back (place_queues c key body (calm.plain.no_stash key)) calm.rests;
         }
+
+-- a document was placed against which nothing stood
+pub placed_calm : (p : Progress) (key : Key) (body : Value) → IsCalm p.content → against_placing p (name.Doc key) (placed_doc body) ≡ None
+    → IsCalm (insert p.content (name.Doc key) (placed_doc body))
+placed_calm p key body calm nothing = by (get p.content (name.Doc key)) refl
+  where
+    barred : (begun : Bool) → cond begun (Some objection.PlacedTooLate) (Some objection.PlacedTwice) ≡ None → ⊥
+    barred true e = cc
+    barred false e = cc
+
+    by : (o : Option Cell) → get p.content (name.Doc key) ≡ o → IsCalm (insert p.content (name.Doc key) (placed_doc body))
+    by None e = subst IsCalm (λ i. put_under p.content (name.Doc key) (hit_place (placed_doc body) (name.Doc key) (e i))) (place_calm p.content key body calm)
+    by (Some x) e = absurd (barred p.begun (subst (λ (o : Option Cell). cond p.begun (Some objection.PlacedTooLate) (cond (is_none o && true) None (Some objection.PlacedTwice)) ≡ None) e nothing))
 
 -- ---- what each statement keeps
 

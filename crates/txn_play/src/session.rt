@@ -88,7 +88,8 @@ impl<S: Store> Session<S> {
         ensures { HasAttended S.Store (statement.Doc key body) self.old self.new result }
     {
         let cell = placed_doc(alloc, body);
-        self.place_at(alloc, &Name::Doc(key), cell)
+        self.place_at(alloc, &Name::Doc(key), cell)?;
+        Ok(Answer::Nothing)
     }
 
     /// What a cell line places may be sound or not, so no batch is run behind it.
@@ -97,20 +98,21 @@ impl<S: Store> Session<S> {
         requires cleared { self.old.batch ≡ [] }
         ensures { HasAttended S.Store (statement.Place name cell) self.old self.new result }
     {
-        let answer = self.place_at(alloc, &name, cell)?;
+        self.place_at(alloc, &name, cell)?;
         self.documents_alone = false;
-        Ok(answer)
+        Ok(Answer::Nothing)
     }
 
-    fn place_at(&mut self, alloc: Global, name: &Name, cell: Cell) -> Result<Answer, Refusal>
-        ensures placed { IsTrue S.tells → IfOk result (λ said. (said ≡ Answer.Nothing)
-            × (against_placing (at S.Store self.old) name.now cell ≡ None)
+    fn place_at(&mut self, alloc: Global, name: &Name, cell: Cell) -> Result<(), Refusal>
+        ensures placed { IsTrue S.tells → OnOk result
+            ((against_placing (at S.Store self.old) name.now cell ≡ None)
             × (S.content self.new.store ≡ insert (S.content self.old.store) name.now cell)) }
         ensures against { IsTrue S.tells → IfErr result
             (IsAgainst (against_placing (at S.Store self.old) name.now cell)) }
         ensures left { IsTrue S.tells → OnErr result
             (S.content self.new.store ≡ S.content self.old.store) }
         ensures unbegun { OnOk result (self.old.begun ≡ false) }
+        ensures idle { self.old.begun ≡ true → self.new.store ≡ self.old.store }
         ensures rest { (self.new.batch ≡ self.old.batch) × (self.new.begun ≡ self.old.begun)
             × (self.new.documents_alone ≡ self.old.documents_alone)
             × (self.new.runs.items ≡ self.old.runs.items) }
@@ -121,7 +123,7 @@ impl<S: Store> Session<S> {
             return Err(Refusal::Objected(Objection::PlacedTooLate));
         }
         if place(alloc, &mut self.store, name, cell)? {
-            Ok(Answer::Nothing)
+            Ok(())
         } else {
             Err(Refusal::Objected(Objection::PlacedTwice))
         }

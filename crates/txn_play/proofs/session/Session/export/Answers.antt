@@ -2,6 +2,7 @@ use Rattle.std.proofs.Common.{true, false, refl, sym, ap, ◌∙◌, rules}
 use Rattle.std.proofs.lemmas.Result.{err_from_is_err_and}
 use Rattle.txn_play.specs.declared.answer.Answer.TheVariants.{Cells}
 use Rattle.txn_script.specs.declared.statement.Statement.TheVariants as statement
+use Rattle.txn_play.specs.Sessions.{at}
 use Rattle.txn_play.proofs.Attending.{failed_against, failed_refused, nothing_first}
 use Rattle.txn_play.proofs.Sessions.{kept_reading, refused_reading}
 use Rattle.txn_play.proofs.session.Session.export.Goals as goal
@@ -9,7 +10,7 @@ use Rattle.txn_play.proofs.session.Session.export.Goals as goal
 pub returns : goal.returns
 returns g c = record {
   done = λ told. record {
-    allowed = nothing_first _ statement.Export c.requires.cleared;
+    allowed = nothing_first (at g.S.Store c.args.self.now) statement.Export c.requires.cleared;
     performs = record {
       none_waits = c.requires.cleared;
       stays = λ i. record { content = (c.list_cells.ensures.reads told).same i; calls = g.S.Store.calls c.list_cells.new.store; waiting = c.args.self.now.batch; begun = true; documents_alone = c.args.self.now.documents_alone; runs = c.args.self.now.runs.items };

@@ -2,6 +2,7 @@ use Rattle.std.proofs.Common.{true, false, refl, sym, ap, ◌∙◌, rules}
 use Rattle.store_laws.proofs.meanings.Resting.{meaning-rest}
 use Rattle.txn_play.specs.declared.answer.Answer.TheVariants.{Documents}
 use Rattle.txn_script.specs.declared.statement.Statement.TheVariants as statement
+use Rattle.txn_play.specs.Sessions.{at}
 use Rattle.txn_play.proofs.Attending.{alone_may, nothing_first, of_run_against}
 use Rattle.txn_play.proofs.BatchRuns.{stays_left}
 use Rattle.txn_play.proofs.Sessions.{kept_reading, refused_reading}
@@ -14,7 +15,7 @@ returns-in-Ok g c = record {
       let calm = ((c.requires.stands told).may_run alone).calm in
       let same = (c.list_documents.ensures.reads told).same in
       record {
-        allowed = nothing_first _ statement.Show c.requires.cleared ∙ alone_may _ alone;
+        allowed = nothing_first (at g.S.Store c.args.self.now) statement.Show c.requires.cleared ∙ alone_may (at g.S.Store c.args.self.now) alone;
         performs = record {
           none_waits = c.requires.cleared;
           stays = λ i. record { content = same i; calls = g.S.Store.calls c.list_documents.new.store; waiting = c.args.self.now.batch; begun = true; documents_alone = c.args.self.now.documents_alone; runs = c.args.self.now.runs.items };
