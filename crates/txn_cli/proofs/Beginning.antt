@@ -55,7 +55,7 @@ module _ {S : Type 0} (store : Ghosts S) (old new : Session S) (begins : IsNew o
 -- the call is refused before any line
 module _ (taken : Taken) (begun : Progress) (end : Held) (w : Writing) (unwritten : w.after ≡ w.before) (later : begun.calls ≤ end.calls) (here : end.trail end.calls ≡ begun.content)
     (holds : end.content ≡ begun.content) (runs : end.runs ≡ begun.runs) where
-  stays : Stays (holding_at begun) (holding_in end)
+  stays : Stays (holding_at (record begun { calls = end.calls })) (holding_in end)
   stays = record { holds = holds; runs = runs }
 
   written : IsTrue w.tells → w.after ≡ w.before ++ []

@@ -56,7 +56,7 @@ ran p q said n b r =
     (record { nonces = omega (arith, b.nonces, u.counter); numbers = λ key. omega (arith, b.numbers key, u.numbers key) })
 
 -- where documents alone were placed
-BoundsAlone : Progress → ℕ → Type 0
+abbrev BoundsAlone : Progress → ℕ → Type 0
 BoundsAlone p n = IsTrue p.documents_alone → Bounds p n
 
 told : (p q : Progress) (said expected : Answer) (n : ℕ) → BoundsAlone p n → Tells p q said expected → BoundsAlone q (n + 1)
@@ -72,7 +72,7 @@ does (statement.Submit id ops info) p q said n b is = subst (λ (x : Progress). 
   nonces = omega (arith, (b alone).nonces, length-append p.waiting (record { id = id; ops = ops; info = info } ∷ []));
   numbers = λ key. omega (arith, (b alone).numbers key, length-append p.waiting (record { id = id; ops = ops; info = info } ∷ []));
 })
-does (statement.Go plan) p q said n b runs alone = bounds_more q n (ran p q said n (b (sym runs.alone ∙ alone)) runs)
+does (statement.Go plan) p q said n b runs = λ alone. bounds_more q n (ran p q said n (b (sym runs.alone ∙ alone)) runs)
 does (statement.Resume id) p q said n b none = elim none [ ]
 does statement.Prune p q said n b none = elim none [ ]
 does statement.Purge p q said n b none = elim none [ ]
@@ -100,7 +100,7 @@ begins c from calls alone = subst (λ (x : Content). Bounds (record (opening x f
 bounded : (script : List ℕ) (trail : ℕ → Content) (c : Content) (from : ℕ) (n : ℕ) (p : Progress) (answers : List Answer) → Plays script trail (opening c from) n p answers → BoundsAlone p n
 bounded script trail c from _ _ _ (Plays.Opens calls follows) = begins c from calls
 bounded script trail c from _ _ _ (Plays.Line m line p q answers said plays first did follows) = plays_as (line_in line) p q said m (bounded script trail c from m p answers plays) did
-bounded script trail c from _ _ _ (Plays.Batch m p q answers said plays lets batch follows) alone = ran p q said m (bounded script trail c from m p answers plays (sym batch.runs.alone ∙ alone)) batch.runs
+bounded script trail c from _ _ _ (Plays.Batch m p q answers said plays lets batch follows) = λ alone. ran p q said m (bounded script trail c from m p answers plays (sym batch.runs.alone ∙ alone)) batch.runs
 
 pub suffices_at : (script : List ℕ) (trail : ℕ → Content) (c : Content) (from : ℕ) (n : ℕ) (p : Progress) (answers : List Answer) → Plays script trail (opening c from) n p answers → n ≤ 268435456
     → IsTrue p.documents_alone → Suffices p.content (length p.waiting)

@@ -151,8 +151,8 @@ StopsFor store old new why = IfSome (refusal_in_stop why) (IsCaused store old ne
 
 -- What each call for a line keeps: the session, and the count of the output's failures; a refusal has its
 -- cause.
-pub record IsKeptLine {S : Type 0} (store : Ghosts S) (old new : Session S) (output : Counts)
+pub record IsKeptLine {S : Type 0} (store : Ghosts S) (old new : Session S) (faults : Counts)
     (result : Result (Unit {0}) Stop) : Type 0 where
   pub session : IsKept store old new result
   pub caused : IfErr result (StopsFor store old new)
-  pub output : FailsOnly output result stop.Output
+  pub output : FailsOnly faults result stop.Output

@@ -57,10 +57,8 @@ fn push_cells(alloc: Global, lines: &mut Vec<u8>, cells: &[Named]) -> Result<(),
 fn push_order(alloc: Global, lines: &mut Vec<u8>, entries: &[Entry]) -> Result<(), OutOfMemory>
     ensures { OnOk result (lines.new.items ≡ lines.old.items ++ order_text 1 entries.now) }
 {
-    let mut number = 1;
-    for entry in entries {
-        push_entry(alloc, lines, number, entry)?;
-        number += 1;
+    for index in 0..entries.len() {
+        push_entry(alloc, lines, index as u64 + 1, &entries[index])?;
     }
     Ok(())
 }
