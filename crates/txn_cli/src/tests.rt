@@ -54,8 +54,14 @@ const GREATEST: &str = r#"{"doc":["k","p"],"body":{"n":9223372036854775807}}
 {"show":true}
 "#;
 
+/// The batch runs first, and then the line is refused, as one that comes too late, not as a second one.
+const UNPLACED: &str = r#"{"doc":["k","a"],"body":{"v":0}}
+{"txn":"000000000000000000000001","ops":[{"c":"k","d":"a","u":{"$set":{"v":1}}}],"info":null}
+{"doc":["k","a"],"body":{}}
+"#;
+
 /// What words and a script come to: the status and the output.
-static WORKED: [(&str, &str, u8, &str); 16] = [
+static WORKED: [(&str, &str, u8, &str); 17] = [
     ("run", SCRIPT, 0, OUTPUT),
     ("run", ABORT, 1, ABORTED),
     (
@@ -101,6 +107,12 @@ static WORKED: [(&str, &str, u8, &str); 16] = [
         r#"{"txn":"000000000000000000000001","ops":[{"c":"k","d":"a","a":"d+"}]}"#,
         3,
         "line 1: not built yet\n",
+    ),
+    (
+        "run",
+        UNPLACED,
+        3,
+        "000000000000000000000001 applied\nline 3: placed too late\n",
     ),
 ];
 
@@ -171,6 +183,34 @@ fn worked_scripts(rt: HostRuntime) -> Result<(), Fail> {
         );
     }
     Ok(())
+}
+
+/// A script of the cells that an export prints is that store.
+#[test]
+fn exports_again(rt: HostRuntime) -> Result<(), Fail> {
+    let alloc = rt.alloc();
+    for (words, script, status, _) in &WORKED {
+        if *status < 2 {
+            let cells = exported(alloc, words, script)?;
+            let again = exported(alloc, words, cells.as_str())?;
+            assert_eq!(rt; again.as_str(), cells.as_str(), "{script}");
+        }
+    }
+    Ok(())
+}
+
+/// The cell lines that an export behind a script prints.
+fn exported(alloc: Global, words: &str, script: &str) -> Result<String, Fail> {
+    let asked = format!(in alloc; "{script}{{\"export\":true}}\n")?;
+    let played = play(alloc, words, asked.as_str(), NONE)?;
+    let mut cells = String::new(alloc);
+    for line in str::from_utf8(played.written.as_slice())?.lines() {
+        if line.starts_with('{') {
+            cells.push_str(line)?;
+            cells.push('\n')?;
+        }
+    }
+    Ok(cells)
 }
 
 #[test]
