@@ -2,8 +2,7 @@
 use doc_value::{OutOfMemory, read_value};
 use std::alloc::Global;
 use std::test::Fail;
-use store_trait::Named;
-use txn_script::{GoPlan, ScriptFault, Statement, print_cell, read_line};
+use txn_script::{GoPlan, ScriptFault, Statement, read_line};
 
 /// Lines and their kind, or the text that refuses them.
 static LINES: [(&str, &str); 88] = [
@@ -92,10 +91,7 @@ static LINES: [(&str, &str); 88] = [
     (r#"{"go":{"runners":0}}"#, "bad statement"),
     (r#"{"go":[]}"#, "bad statement"),
     (r#"{"go":true}"#, "bad statement"),
-    (
-        r#"{"resume":"00000000000000000000000A"}"#,
-        "resume 00000000000000000000000a",
-    ),
+    (r#"{"resume":"00000000000000000000000A"}"#, "resume"),
     (r#"{"resume":"all"}"#, "resume all"),
     (r#"{"resume":"ALL"}"#, "bad id"),
     (r#"{"resume":""}"#, "bad id"),
@@ -140,10 +136,7 @@ static LINES: [(&str, &str); 88] = [
         r#"{"info":1,"ops":[{"c":"k","d":"a","u":{"$set":{"v":1}}}]}"#,
         "bad statement",
     ),
-    (
-        r#"{"cell":"nonce","is":{"next":1}}"#,
-        r#"{"cell":"nonce","is":{"next":1}}"#,
-    ),
+    (r#"{"cell":"nonce","is":{"next":1}}"#, "cell"),
     (r#"{"cell":"nonce","show":true}"#, "bad cell"),
     (r#"{"cell":null}"#, "bad cell"),
 ];
@@ -382,24 +375,15 @@ static PLANS: [(&str, &str); 33] = [
 
 const OPERATION: &str = r#"{"c":"k","d":"a","a":"d-"},"#;
 
-/// The kind of a statement; of a cell its text.
-fn shown(alloc: Global, statement: Statement) -> Result<String, Fail> {
-    let kind = match statement {
+/// The kind of a statement.
+fn kind(statement: &Statement) -> &'static str {
+    match statement {
         Statement::Doc { .. } => "doc",
-        Statement::Place { name, cell } => {
-            return Ok(
-                String::from_utf8(print_cell(alloc, &Named { name, cell })?)
-                    .ok()
-                    .ok_or("text")?,
-            );
-        }
+        Statement::Place { .. } => "cell",
         Statement::Submit { info: None, .. } => "submit",
         Statement::Submit { .. } => "submit with info",
         Statement::Go(_) => "go",
-        Statement::Resume(Some(id)) => {
-            let id = String::from_utf8(id.print(alloc)?).ok().ok_or("id")?;
-            return Ok(format!(in alloc; "resume {id}")?);
-        }
+        Statement::Resume(Some(_)) => "resume",
         Statement::Resume(None) => "resume all",
         Statement::Prune => "prune",
         Statement::Purge => "purge",
@@ -407,15 +391,22 @@ fn shown(alloc: Global, statement: Statement) -> Result<String, Fail> {
         Statement::Show => "show",
         Statement::Export => "export",
         Statement::Order => "order",
-    };
-    Ok(String::from_str(alloc, kind)?)
+    }
+}
+
+/// The kind of a copy. The copy alone is alive where memory may be wanting.
+fn kind_of_copy(alloc: Global, statement: Statement) -> Result<&'static str, OutOfMemory> {
+    let copy = statement.copy(alloc);
+    drop(statement);
+    let copy = copy?;
+    Ok(kind(&copy))
 }
 
 /// Whether a line is shown so, or is refused by that text.
 fn is_read_as(alloc: Global, line: &[u8], expected: &str) -> Result<bool, Fail> {
     match read_line(alloc, line) {
         Ok(None) => Ok(expected == "nothing"),
-        Ok(Some(statement)) => Ok(shown(alloc, statement.copy(alloc)?)?.as_str() == expected),
+        Ok(Some(statement)) => Ok(kind_of_copy(alloc, statement)? == expected),
         Err(fault) => Ok(fault.text(alloc)?.as_str() == expected),
     }
 }
