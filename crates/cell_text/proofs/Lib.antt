@@ -4,3 +4,5 @@ pub mod FieldsAgain
 pub mod BodiesAgain
 pub mod CellsAgain
 pub mod RecordsRead
+pub mod PartsStorable
+pub mod CellsStorable

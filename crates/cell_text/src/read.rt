@@ -5,6 +5,7 @@ ghost use Rattle.std.specs.Option.{option_copied};
 ghost use Rattle.doc_value.specs.declared.value.Value.{out-Value};
 ghost use Rattle.cell_text.specs.Fields.{fields_in, has_only};
 ghost use Rattle.cell_text.specs.Parts.{text_in};
+ghost use Rattle.cell_text.specs.Storable.{IsStorable};
 ghost use Rattle.cell_text.specs.Syntax.{cell_in, cell_of_fields, doc_in, doc_key_in, doc_under, is_doc_kind, is_own_name, is_record_name, is_stash_name, named_nonce, named_record, nonce_of_fields, of_kind_in, or_bad, record_in, record_of, stash_cell_in, stash_in, without_own};
 
 use crate::fault::CellFault;
@@ -20,10 +21,11 @@ use store_trait::{Cell, DocCell, Name, Named, StashCell};
 use txn_key::Key;
 use txn_record::Record;
 
-/// The cell that the value is, under its name.
+/// The cell that the value is, under its name: one that is read again from what it prints as.
 #[tactic(auto, unfolding(crate::specs::Syntax::cell_in))]
 pub fn read_cell_text(alloc: Global, value: &Value) -> Result<Named, CellFault>
-    ensures { result ≢ Err CellFault.OutOfMemory → result ≡ or_bad (cell_in value.now) }
+    ensures exact { result ≢ Err CellFault.OutOfMemory → result ≡ or_bad (cell_in value.now) }
+    ensures storable { IfOk result IsStorable }
 {
     match value {
         Value::Object(fields) => read_fields(alloc, fields.as_slice()),
@@ -198,7 +200,8 @@ fn without_own(alloc: Global, is: &Value) -> Result<Value, OutOfMemory>
 }
 
 fn other_fields(alloc: Global, fields: &[Field]) -> Result<Fields, OutOfMemory>
-    ensures { IfOk result (λ rest. rest ≡ filter (λ field. not (is_own_name field.name)) fields.now) }
+    ensures { IfOk result (λ rest.
+        rest ≡ filter (λ field. not (is_own_name field.name)) fields.now) }
 {
     let mut rest = Items::new(alloc);
     for field in fields {

@@ -5,6 +5,7 @@ pub mod Parts
 pub mod Owners
 pub mod Owning
 pub mod Entries
+pub mod EntryLooks
 pub mod Marks
 pub mod CellRules
 pub mod SoundParts

@@ -1,5 +1,7 @@
 pub mod RecordEdits
 pub mod DocEdits
+pub mod EntryEdits
+pub mod Growing
 pub mod DecidingMoves
 pub mod Updating
 pub mod UpdateEdits

@@ -4,3 +4,5 @@ pub mod TrailLegal
 pub mod TrailTells
 pub mod TrailSplits
 pub mod Exchanges
+pub mod CallsMade
+pub mod OnlyReading

@@ -5,6 +5,7 @@ pub mod Alone
 pub mod Hits
 pub mod Trail
 pub mod Found
+pub mod Queues
 pub mod Gathered
 pub mod Nonces
 pub mod Plain
@@ -19,4 +20,5 @@ pub mod Later
 pub mod Done
 pub mod Entries
 pub mod Since
+pub mod Reads
 pub mod Known

@@ -6,6 +6,7 @@ mod alone;
 mod deciding;
 mod documents;
 mod edits;
+mod entries;
 mod exchanges;
 mod forward;
 mod gathering;
@@ -15,6 +16,7 @@ mod knowing;
 mod plain;
 mod preparing;
 mod queueing;
+mod queues;
 mod reading;
 mod settling;
 mod submitting;
@@ -26,6 +28,7 @@ pub use deciding::{
 };
 pub use documents::{bodies_as_they_lie, meaning_at_rest};
 pub use edits::{edits_are_local, edits_hit, edits_leave};
+pub use entries::adding_to_an_entry;
 pub use exchanges::exchanges_follow;
 pub use forward::{readiness_lasts, ready_records_share_no_key, steps_follow};
 pub use gathering::{findings_last, gathering_the_ready, gatherings_last, scanning_own_keys};
@@ -35,6 +38,7 @@ pub use knowing::{marked_cells_last, passing_lasts, queueing_lasts, records_last
 pub use plain::staying_plain;
 pub use preparing::preparing_a_record;
 pub use queueing::{adding_a_token, drawing_a_nonce, nonces_are_fresh, nonces_are_given};
+pub use queues::adding_to_one_queue;
 pub use reading::reading_a_key;
 pub use settling::{
     closing_an_aborted_record, closing_an_applied_record, passing_an_operation, staying_done,

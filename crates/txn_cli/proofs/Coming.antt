@@ -1,10 +1,11 @@
 -- How far a call has come in its script, from line to line.
-use Rattle.std.proofs.Common.{◌≡◌, ◌≤◌, ℕ, ◌+◌, arith, Bool, true, false, List, [], ◌∷◌, ◌++◌, Option, Some, None, Ok, IsTrue, ⊎_elim, refl, sym, ap, ◌∙◌, subst, add-one}
+use Rattle.std.proofs.Common.{◌≡◌, ◌≢◌, ◌≤◌, ℕ, ◌+◌, arith, Bool, true, false, List, [], ◌∷◌, ◌++◌, Option, Some, None, Result, Ok, IsTrue, ⊎_elim, refl, sym, ap, ◌∙◌, subst, add-one}
 use Rattle.std.proofs.lemmas.List.{append-nil}
 use Rattle.store_trait.specs.Contents.{Content}
 use Rattle.store_trait.specs.Stores.{CallsGoOn}
 use Rattle.store_trait.specs.declared.store.Store.{Ghosts}
-use Rattle.txn_io.specs.Lines.{LinesView, after_line, line_cost}
+use Rattle.txn_io.specs.Lines.{LinesView, after_line, limit_passed, line_cost, reading, unless_passed}
+use Rattle.txn_io.specs.declared.lines.LineFault.{LineFault}
 use Rattle.txn_io.specs.Unread.{Unread, HasRead, unread}
 use Rattle.txn_io.specs.declared.source.Source.{Ghosts as SourceGhosts}
 use Rattle.txn_io.specs.declared.sink.Sink.{Ghosts as SinkGhosts}
@@ -17,7 +18,7 @@ use Rattle.txn_play.specs.declared.session.Session.{Session}
 use Rattle.txn_cli.specs.Call.{start}
 use Rattle.txn_cli.specs.Line.{Between, HasDone, HasDoneLine, HasRunFirst, RunsFirst, up_to}
 use Rattle.txn_cli.specs.Output.{Writing, Wrote, answer_text, answers_text, writing}
-use Rattle.txn_cli.specs.Script.{Plays, PlaysAs, after_lines, line_lets_run, next_lets_run, next_of, taken_by}
+use Rattle.txn_cli.specs.Script.{HasLines, Plays, PlaysAs, after_lines, line_lets_run, next_lets_run, next_of, taken_by}
 use Rattle.txn_cli.proofs.Scripts.{first_as, lets_next, plays_still, wrote_more, wrote_none}
 
 -- a script was done up to its nth line, and this is unread
@@ -25,6 +26,33 @@ pub record IsAt (script : List ℕ) (trail : ℕ → Content) (begun : Progress)
   pub plays : Plays script trail begun n p answers
   pub rest : after_lines n script ≡ left.left
   pub taken : taken_by n script ≡ left.taken
+
+-- a script was read up to its nth line, and this is unread
+pub record IsReadTo (script : List ℕ) (n : ℕ) (left : Unread) : Type 0 where
+  pub there : HasLines n script
+  pub rest : after_lines n script ≡ left.left
+  pub taken : taken_by n script ≡ left.taken
+
+-- what comes next in the script is what a read answers
+pub next_to : (script : List ℕ) (n : ℕ) (left : Unread) (r : Result (Option (List ℕ)) LineFault) → IsReadTo script n left → reading left.taken left.left ≡ r → next_of n script ≡ r
+next_to script n left r a read = rw (a.taken, a.rest) read
+
+-- where a line is read, bytes are left
+some_left : (taken : ℕ) (left line : List ℕ) → reading taken left ≡ Ok (Some line) → left ≢ []
+some_left taken (byte ∷ left) line read = λ none. cc
+some_left taken [] line read = absurd (by (limit_passed taken 0 0) read)
+  where
+    by : (passed : Option LineFault) → unless_passed passed None ≡ Ok (Some line) → ⊥
+    by None e = absurd (cc e)
+    by (Some fault) e = absurd (cc e)
+
+-- one line more was read
+pub reads_on : (script : List ℕ) (n : ℕ) (left new : Unread) (line : List ℕ) → IsReadTo script n left → HasRead left new (Some line) → IsReadTo script (n + 1) new
+reads_on script n left new line a read = record {
+  there = rw add-one (λ none. some_left left.taken left.left line read.line (sym a.rest ∙ none));
+  rest = rw add-one (ap after_line a.rest ∙ sym read.left);
+  taken = rw (add-one, a.taken, a.rest) (sym read.taken);
+}
 
 -- what was read is what comes next in the script
 pub next_is : (script : List ℕ) (trail : ℕ → Content) (begun : Progress) (n : ℕ) (p : Progress) (answers : List Answer) (left new : Unread) (line : Option (List ℕ))
@@ -46,6 +74,7 @@ pub record IsReading {S I O : Type 0} (store : Ghosts S) (source : SourceGhosts 
   pub input_later : source.faults old_input ≤ source.faults input
   pub made : CallsGoOn store old.store new.store
   pub stands : Stands store new
+  pub read : IsTrue source.tells → IsReadTo (source.rest old_input) done (unread source lines input)
   pub come : IsTrue source.tells → IsTrue store.tells
       → HasCome store (source.rest old_input) (store.trail new.store) (start store old.store) done (unread source lines input) new (writing sink old_output output)
 

@@ -1,5 +1,6 @@
 pub mod Beginning
 pub mod Coming
+pub mod Caused
 pub mod LineSteps
 pub mod Scripts
 pub mod Spending

@@ -1,8 +1,9 @@
 -- A line in two steps: a batch that is let run first, and the line itself.
-use Rattle.std.proofs.Common.{◌≡◌, ◌≢◌, ◌≤◌, ◌⊎◌, ⊎_elim, inl, inr, ℕ, Bool, true, false, List, [], ◌++◌, Option, Some, None, Result, Ok, Err, OnOk, IfErr, IfOk, IsTrue, length, refl, sym, ap, ◌∙◌, subst, arith, cond}
+use Rattle.std.proofs.Common.{◌≡◌, ◌≢◌, ◌≤◌, ◌⊎◌, ⊎_elim, inl, inr, ℕ, Bool, true, false, List, [], ◌∷◌, ◌++◌, ◌==◌, Option, Some, None, Result, Ok, Err, OnOk, IfErr, IfOk, IsTrue, length, refl, sym, ap, ◌∙◌, subst, arith, cond}
 use Rattle.std.specs.Prelude.{IfSome}
 use Rattle.std.proofs.lemmas.List.{append-nil}
 use Rattle.store_trait.specs.Contents.{Content}
+use Rattle.store_trait.specs.Exchanges.{Exchanged}
 use Rattle.store_trait.specs.Stores.{CallsGoOn}
 use Rattle.store_trait.specs.declared.store.Store.{Ghosts}
 use Rattle.txn_script.specs.Statements.{line_in}
@@ -13,9 +14,9 @@ use Rattle.txn_script.specs.declared.statement.Statement.{Statement}
 use Rattle.txn_script.specs.declared.statement.Statement.TheVariants as statement
 use Rattle.txn_play.specs.Remains.{Stays}
 use Rattle.txn_play.specs.Progress.{Progress, Does, is_nothing, lets_run, objection_at_end, objection_to, runs_batch, unless_alone}
-use Rattle.txn_play.specs.Sessions.{HasEnough, IsCaused, at, holding}
+use Rattle.txn_play.specs.Sessions.{HasEnough, IsCaused, IsKept, Stands, at, holding}
 use Rattle.txn_play.proofs.Causing.{caused_before}
-use Rattle.txn_runner.proofs.CallsMade.{calls_then, rose_before}
+use Rattle.store_laws.proofs.trails.CallsMade.{calls_none, calls_then, rose_before}
 use Rattle.txn_runner.specs.Numbers.{Suffices}
 use Rattle.txn_runner.specs.declared.waiting.Waiting.{Waiting}
 use Rattle.txn_play.specs.declared.answer.Answer.{Answer}
@@ -25,11 +26,12 @@ use Rattle.txn_play.specs.declared.refusal.Refusal.{Refusal}
 use Rattle.txn_play.specs.declared.refusal.Refusal.TheVariants as refusal
 use Rattle.txn_play.specs.declared.session.Session.{Session}
 use Rattle.txn_play.proofs.BatchRuns.{left_more}
-use Rattle.txn_cli.specs.Faults.{counts, objection_text, refusal_in_stop, stop_of_reading}
-use Rattle.txn_cli.specs.Line.{Between, Deed, HasDone, HasDoneCut, HasDoneIdly, HasDoneLine, HasRunFirst, HasStoppedLine, IsKeptLine, LeftBy, RefusedBy, RunsFirst, StoppedFirst, StoppedFor, StopsFor, performing, playing, running, running_first, up_to, from}
+use Rattle.txn_cli.specs.Causes.{counts}
+use Rattle.txn_cli.specs.Faults.{objection_text, refusal_in_stop, stop_of_reading}
+use Rattle.txn_cli.specs.Line.{Between, Deed, HasDone, HasDoneCut, HasDoneIdly, HasDoneLine, HasRunFirst, HasStoppedLine, IsKeptLine, IsOfStatement, LeftBy, MayStop, RefusedBy, RunsFirst, RunsWaiting, StoppedFirst, StoppedFor, StopsFor, performing, playing, running, running_first, up_to, from}
 use Rattle.txn_cli.specs.Output.{Writing, Wrote, WrotePart, answer_text, prints}
 use Rattle.txn_cli.proofs.Scripts.{first_as}
-use Rattle.txn_cli.specs.Script.{PlaysAs, RefusedAs, RefusedFor, line_lets_run, line_may_run}
+use Rattle.txn_cli.specs.Script.{MayRefuseAs, PlaysAs, RefusedAs, RefusedFor, Stated, line_lets_run, line_may_run}
 use Rattle.txn_cli.specs.declared.stop.Stop.{Stop}
 use Rattle.txn_cli.specs.declared.stop.Stop.TheVariants as stop
 
@@ -99,10 +101,10 @@ enough_first store lets old between answer ran enough = ⊎_elim
     (first_as lets (at store old) (at store between) answer ran)
 
 -- a refusal behind the first step has its cause since before that step
-pub caused_since : {S T : Type 0} (store : Ghosts S) (old between new : Session S) (result : Result T Stop) → store.calls old.store ≤ store.calls between.store → store.faults old.store ≤ store.faults between.store
+pub caused_since : {S T : Type 0} (store : Ghosts S) (old between new : Session S) (result : Result T Stop) → Exchanged store old.store between.store → store.faults old.store ≤ store.faults between.store
     → (IsTrue store.tells → HasEnough store old → HasEnough store between) → IfErr result (StopsFor store between new) → IfErr result (StopsFor store old new)
-caused_since store old between new (Ok x) calls faults enough h = tt
-caused_since {S} store old between new (Err why) calls faults enough h = by (refusal_in_stop why) h
+caused_since store old between new (Ok x) chain faults enough h = tt
+caused_since {S} store old between new (Err why) chain faults enough h = by (refusal_in_stop why) h
   where
     by : (o : Option Refusal) → IfSome o (IsCaused store between new) → IfSome o (IsCaused store old new)
     by None h = tt
@@ -110,7 +112,7 @@ caused_since {S} store old between new (Err why) calls faults enough h = by (ref
       fault = λ is. rose_before faults (h.fault is);
       reason = h.reason;
       enough = λ told e. h.enough told (enough told e);
-      cause = caused_before store old.store between.store new.store r calls h.cause;
+      cause = caused_before store old.store between.store new.store r chain h.cause;
     }
 
 -- what two steps keep, one after the other
@@ -118,7 +120,7 @@ pub kept_then : {S : Type 0} (store : Ghosts S) (old between new : Session S) (a
     → (IsTrue store.tells → HasEnough store old → HasEnough store between) → IsKeptLine store between new (counts b c) result → IsKeptLine store old new (counts a c) result
 kept_then store old between new a b c result calls le enough then = record {
   session = record { stands = then.session.stands; runs = then.session.runs; calls = calls_then store old.store between.store new.store calls then.session.calls };
-  caused = caused_since store old between new result calls.counted calls.later enough then.caused;
+  caused = caused_since store old between new result calls.chain calls.later enough then.caused;
   output = record { later = omega (arith, le, then.output.later); fault = λ is. rose_before le (then.output.fault is) };
 }
 
@@ -222,3 +224,77 @@ module _ {S : Type 0} (store : Ghosts S) (line : List ℕ) where
           (subst (λ (r : Result (Option Statement) ScriptFault). RefusedBy r (at store between.session) why) (sym read) (refused_by s (at store between.session) why refused))
           (left_by_more store (performing s) (playing line) between.session new (from w between) why
           (λ runs. ap line_may_run read ∙ runs_may s runs) (λ p q answer does. subst (λ (r : Result (Option Statement) ScriptFault). PlaysAs r p q answer) (sym read) does) l)
+
+-- ---- where no batch is run
+
+none_waits : (waiting : List Waiting) → (length waiting == 0) ≡ true → waiting ≡ []
+none_waits [] e = refl
+none_waits (txn ∷ waiting) e = absurd (grind (arith, e))
+
+pub waits_none : {S : Type 0} (store : Ghosts S) (session : Session S) (w : Writing) → (length session.batch == 0) ≡ true → w.after ≡ w.before → HasDone store (RunsWaiting session.batch) session session w
+waits_none store session w none unwritten = record {
+  answer = Nothing;
+  did = subst (λ (batch : List Waiting). RunsWaiting batch (at store session) (at store session) Nothing) (sym (none_waits session.batch none)) (refl, refl);
+  writes = λ told. unwritten ∙ sym (append-nil w.before);
+}
+
+pub lets_none : {S : Type 0} (store : Ghosts S) (lets : Bool) (session : Session S) (w : Writing) → lets ≡ false → w.after ≡ w.before → HasDone store (RunsFirst lets) session session w
+lets_none store lets session w none unwritten = record {
+  answer = Nothing;
+  did = subst (λ (b : Bool). RunsFirst b (at store session) (at store session) Nothing) (sym none) (refl, refl);
+  writes = λ told. unwritten ∙ sym (append-nil w.before);
+}
+
+-- ---- where no call was made
+
+pub kept_still : {S : Type 0} (store : Ghosts S) (s : Session S) (b : ℕ) (x : Unit {0}) → Stands store s
+    → (IsTrue store.tells → store.trail s.store (store.calls s.store) ≡ store.content s.store) → IsKeptLine store s s (counts b b) (Ok x)
+kept_still store s b x stands present = record {
+  session = record { stands = stands; runs = λ told. (stands told).runs; calls = calls_none store s.store present };
+  caused = tt;
+  output = record { later = omega arith; fault = λ e. absurd (cc e) };
+}
+
+pub kept_misread : {S : Type 0} (store : Ghosts S) (s : Session S) (b : ℕ) (why : ScriptFault) → Stands store s
+    → (IsTrue store.tells → store.trail s.store (store.calls s.store) ≡ store.content s.store) → IsKeptLine store s s (counts b b) (Err (stop_of_reading why))
+kept_misread {S} store s b why stands present = ⊎_elim
+    (λ text. subst (λ (e : Stop). IsKeptLine store s s (counts b b) (Err e)) (sym text.1) (record { session = session; caused = tt; output = record { later = omega arith; fault = λ e. absurd (cc e) } }))
+    (λ memory. subst (λ (f : ScriptFault). IsKeptLine store s s (counts b b) (Err (stop_of_reading f))) (sym memory) (record {
+      session = session;
+      caused = record { fault = λ e. absurd (cc e); reason = λ told. tt; enough = λ told enough. tt; cause = tt };
+      output = record { later = omega arith; fault = λ e. absurd (cc e) };
+    }))
+    (reads_as why)
+  where
+    session : {E : Type 0} {e : E} → IsKept {T = Unit {0}} store s s (Err e)
+    session = record { stands = tt; runs = λ told. (stands told).runs; calls = calls_none store s.store present }
+
+-- ---- by what texts a line may be refused
+
+pub may_misread : (stated : Stated) (why : ScriptFault) → (why ≢ script_fault.OutOfMemory → stated ≡ Err why) → MayStop stated (stop_of_reading why)
+may_misread stated why read = ⊎_elim
+    (λ text. subst (MayStop stated) (sym text.1) (subst (λ (r : Stated). MayRefuseAs r (script_text why)) (sym (read text.0)) refl))
+    (λ memory. subst (λ (e : ScriptFault). MayStop stated (stop_of_reading e)) (sym memory) tt)
+    (reads_as why)
+
+may_stated : (stated : Stated) (s : Statement) (why : Stop) → stated ≡ Ok (Some s) → IsOfStatement why → MayStop stated why
+may_stated stated s (stop.Misread w) read of = elim of [ ]
+may_stated stated s (stop.Refused (refusal.Objected o)) read of = subst (λ (r : Stated). MayRefuseAs r (objection_text o)) (sym read) (record { why = o; is = refl })
+may_stated stated s (stop.Refused refusal.Store) read of = tt
+may_stated stated s (stop.Refused refusal.OutOfMemory) read of = tt
+may_stated stated s (stop.Refused (refusal.Spent e)) read of = tt
+may_stated stated s (stop.Refused (refusal.Broken e)) read of = tt
+may_stated stated s (stop.Refused (refusal.Repeated id)) read of = tt
+may_stated stated s stop.Output read of = tt
+
+pub may_stop_first : (stated : Stated) (s : Statement) (lets : Bool) (p : Progress) (why : Stop) → stated ≡ Ok (Some s) → StoppedFirst lets p why → MayStop stated why
+may_stop_first stated s lets p why read h = may_stated stated s why read (of why h.1)
+  where
+    of : (w : Stop) → StoppedFor (objection_at_end p) w → IsOfStatement w
+    of (stop.Misread w) h = h
+    of (stop.Refused r) h = tt
+    of stop.Output h = tt
+
+pub may_stop : (stated : Stated) (s : Statement) (result : Result (Unit {0}) Stop) → stated ≡ Ok (Some s) → IfErr result IsOfStatement → IfErr result (MayStop stated)
+may_stop stated s (Ok x) read h = tt
+may_stop stated s (Err why) read h = may_stated stated s why read h

@@ -27,7 +27,8 @@ use Rattle.txn_play.specs.declared.refusal.Refusal.TheVariants as refusal
 use Rattle.txn_play.specs.declared.session.Session.{Session}
 use Rattle.txn_play.proofs.BatchRuns.{left_more}
 use Rattle.txn_cli.specs.Call.{HasCut, HasDoneNext, HasPlayed, HasStopped, Held, IsOfNext, Leaves, LeavesShort, LeftIn, StopsWith, Taken, held, holding_in}
-use Rattle.txn_cli.specs.Faults.{NoneSpent, OrShort, fault_of_line, fault_of_refusal, fault_of_stop, objection_text, refusal_in, refusal_in_stop}
+use Rattle.txn_cli.specs.Causes.{NoneSpent}
+use Rattle.txn_cli.specs.Faults.{OrShort, fault_of_line, fault_of_refusal, fault_of_stop, objection_text, refusal_in, refusal_in_stop}
 use Rattle.txn_cli.specs.Line.{Deed, HasDone, HasDoneCut, HasDoneIdly, HasStoppedLine, LeftBy, RefusedBy, RunsFirst, StoppedFor, RunsWaiting, playing, running, running_first}
 use Rattle.txn_cli.specs.Output.{Writing, Wrote, answer_text, answers_text}
 use Rattle.txn_cli.specs.Script.{DoesNext, Plays, Reached, RefusedAs, RefusedFor, Refuses, line_lets_run, line_may_run, next_lets_run, next_may_run, next_of}

@@ -1,12 +1,12 @@
 -- The last line of a refusal was written, or another refusal came.
-use Rattle.std.proofs.Common.{◌≡◌, ◌≢◌, ◌≤◌, ℕ, Bool, true, List, [], ◌++◌, Result, Ok, Err, OnOk, OnErr, IsTrue, ◌⊎◌, ⊎_elim, inl, inr, refl, sym, ap, ◌∙◌, subst}
+use Rattle.std.proofs.Common.{◌≡◌, ◌≢◌, ◌≤◌, ℕ, Bool, true, List, [], ◌++◌, Option, Result, Ok, Err, OnOk, OnErr, IsTrue, ◌⊎◌, ⊎_elim, inl, inr, refl, sym, ap, ◌∙◌, subst}
 use Rattle.std.proofs.lemmas.List.{append-nil, append_assoc}
 use Rattle.txn_io.specs.Pour.{IsPartPut}
 use Rattle.txn_cli.specs.Call.{EndsWith, HasCut, HasDoneNext, HasStopped, HasRefused, Held, Leaves, LeavesShort, StopsWith, Taken}
 use Rattle.store_trait.specs.declared.store.Store.{Ghosts}
-use Rattle.txn_runner.proofs.CallsMade.{rose_before}
-use Rattle.txn_cli.specs.Faults.{Counts, HasRisen, IsCaused, NoneSpent, circumstances, counts}
-use Rattle.txn_cli.specs.Output.{Writing, Wrote, WroteOrFailed, WrotePart, answer_text, answers_text, fault_text}
+use Rattle.store_laws.proofs.trails.CallsMade.{rose_before}
+use Rattle.txn_cli.specs.Causes.{Counts, HasRisen, IsCaused, NoneSpent, circumstances, counts}
+use Rattle.txn_cli.specs.Output.{EndsIn, IsEnd, Writing, Wrote, WroteOrFailed, WrotePart, answer_text, answers_text, fault_text}
 use Rattle.txn_cli.specs.Script.{Reached, next_may_run, next_of}
 use Rattle.txn_play.specs.Progress.{Progress}
 use Rattle.txn_cli.specs.declared.fault.Fault.{Fault}
@@ -167,9 +167,9 @@ refuses_out Caused tells before now after rose why told taken begun end stops fa
 
 -- ---- causes, as they stand once the refusal was told
 
-module _ {S : Type 0} (store : Ghosts S) (in_grammar : Bool) (old new : S) (input : Counts) (before now after : ℕ) where
+module _ {S : Type 0} (store : Ghosts S) (in_grammar : Bool) (script : Option (List ℕ)) (old new : S) (input : Counts) (before now after : ℕ) where
   -- what isn't the output's doesn't hang on what it did since
-  pub caused_still : (f : Fault) → f ≢ fault.Output → IsCaused store (circumstances in_grammar old new input (counts before now)) f → IsCaused store (circumstances in_grammar old new input (counts before after)) f
+  pub caused_still : (f : Fault) → f ≢ fault.Output → IsCaused store (circumstances in_grammar script old new input (counts before now)) f → IsCaused store (circumstances in_grammar script old new input (counts before after)) f
   caused_still fault.Output other h = absurd (other refl)
   caused_still fault.Words other h = record { shown = h.shown; reason = h.reason }
   caused_still (fault.Line number text) other h = record { shown = h.shown; reason = h.reason }
@@ -180,5 +180,30 @@ module _ {S : Type 0} (store : Ghosts S) (in_grammar : Bool) (old new : S) (inpu
   caused_still (fault.Broken e) other h = record { shown = h.shown; reason = h.reason }
   caused_still (fault.Repeated id) other h = record { shown = h.shown; reason = h.reason }
 
-  pub caused_output : before ≤ now → HasRisen (counts now after) → IsCaused store (circumstances in_grammar old new input (counts before after)) fault.Output
+  pub caused_output : before ≤ now → HasRisen (counts now after) → IsCaused store (circumstances in_grammar script old new input (counts before after)) fault.Output
   caused_output le rose = record { shown = rose_before le rose; reason = λ told. tt }
+
+-- ---- the last line
+
+-- what was told stands at the end of what was written
+pub told_last : (f : Fault) (tells : Bool) (now after : List ℕ)
+    → (f ≢ fault.Output → f ≢ fault.OutOfMemory → Wrote (record { tells = tells; before = now; after = after }) (fault_text f))
+    → IsTrue tells → EndsIn f after
+told_last f tells now after whole told = ⊎_elim
+    (λ o. subst (λ (g : Fault). EndsIn g after) (sym o) tt)
+    (λ other. ⊎_elim
+    (λ m. subst (λ (g : Fault). EndsIn g after) (sym m) tt)
+    (λ full. ends f other full (record { before = now; is = whole other full told }))
+    (is_memory f))
+    (is_output f)
+  where
+    ends : (g : Fault) → g ≢ fault.Output → g ≢ fault.OutOfMemory → IsEnd (fault_text g) after → EndsIn g after
+    ends fault.Output other full h = tt
+    ends fault.OutOfMemory other full h = tt
+    ends fault.Words other full h = h
+    ends (fault.Line number text) other full h = h
+    ends fault.Store other full h = h
+    ends fault.Input other full h = h
+    ends (fault.Spent e) other full h = h
+    ends (fault.Broken e) other full h = h
+    ends (fault.Repeated id) other full h = h

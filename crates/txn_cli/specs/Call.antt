@@ -13,7 +13,8 @@ use Rattle.txn_play.specs.Runs.{EachRun, IsFaithfulRun}
 use Rattle.txn_play.specs.declared.answer.Answer.{Answer}
 use Rattle.txn_play.specs.declared.refusal.Refusal.{Refusal}
 use Rattle.txn_play.specs.declared.run.Run.{Run}
-use Rattle.txn_cli.specs.Faults.{Circumstances, IsCaused, NoneSpent, circumstances, counts, refusal_in}
+use Rattle.txn_cli.specs.Causes.{Circumstances, IsCaused, NoneSpent, circumstances, counts, told_script}
+use Rattle.txn_cli.specs.Faults.{refusal_in}
 use Rattle.txn_cli.specs.Output.{Writing, Wrote, WroteOrFailed, WrotePart, answer_text, answers_text, fault_text, prints, writing}
 use Rattle.txn_cli.specs.Script.{DoesNext, IsPlayed, Plays, Reached, Refuses, after_lines, next_may_run, next_of}
 use Rattle.txn_cli.specs.Words.{is_grammar}
@@ -192,7 +193,8 @@ HasFaithfulRuns store done = IsTrue store.tells
 -- by what a refusal of it is judged
 abbrev pub judged : {S I O : Type 0} → source.Ghosts I → sink.Ghosts O → Given S I O → Returned S I O
     → Circumstances S
-judged source sink old new = circumstances (is_grammar (map string_bytes old.words)) old.store new.store
+judged source sink old new = circumstances (is_grammar (map string_bytes old.words))
+    (told_script source old.input) old.store new.store
     (counts (source.faults old.input) (source.faults new.input))
     (counts (sink.faults old.output) (sink.faults new.output))
 

@@ -1,13 +1,10 @@
--- Why a line was not done, and why a call ended before the end of its script.
-use Rattle.std.specs.Prelude.{◌≡◌, ◌≤◌, ◌⊎◌, ℕ, Bool, false, List, IsTrue, Option, Some, None, IfSome, Result, IsErrOf, codes}
-use Rattle.store_trait.specs.Calls.{Rose}
-use Rattle.store_trait.specs.declared.store.Store.{Ghosts}
+-- Why a line was not done, and how that ends the call.
+use Rattle.std.specs.Prelude.{◌≡◌, ◌⊎◌, ℕ, List, Option, Some, None, codes}
 use Rattle.txn_io.specs.declared.lines.LineFault.{LineFault}
 use Rattle.txn_io.specs.declared.lines.LineFault.TheVariants as line_fault
 use Rattle.txn_script.specs.Faults.{fault_text as script_text}
 use Rattle.txn_script.specs.declared.fault.ScriptFault.{ScriptFault}
 use Rattle.txn_script.specs.declared.fault.ScriptFault.TheVariants as script_fault
-use Rattle.txn_play.specs.Refusals.{HasCause, HasReason, IsUnspent}
 use Rattle.txn_play.specs.declared.objection.Objection.{Objection}
 use Rattle.txn_play.specs.declared.objection.Objection.TheVariants as objection
 use Rattle.txn_play.specs.declared.refusal.Refusal.{Refusal}
@@ -86,59 +83,3 @@ refusal_in fault.OutOfMemory = Some refusal.OutOfMemory
 refusal_in (fault.Spent error) = Some (refusal.Spent error)
 refusal_in (fault.Broken error) = Some (refusal.Broken error)
 refusal_in (fault.Repeated id) = Some (refusal.Repeated id)
-
--- ---- why a call ended
-
--- a count of faults before a call and after it
-pub record Counts : Type 0 where
-  pub before : ℕ
-  pub after : ℕ
-
-abbrev pub counts : ℕ → ℕ → Counts
-counts before after = record { before = before; after = after }
-
-abbrev pub HasRisen : Counts → Type 0
-HasRisen counts = Rose counts.before counts.after
-
--- a count never falls, and a call fails so only where it rose
-pub record FailsOnly {T E : Type 0} (counts : Counts) (result : Result T E) (failed : E) : Type 0 where
-  pub later : counts.before ≤ counts.after
-  pub fault : IsErrOf result failed → HasRisen counts
-
--- what a call's refusal is judged by: whether its words are in the grammar, the store before and after it,
--- and how often input and output had failed
-pub record Circumstances (S : Type 0) : Type 0 where
-  pub in_grammar : Bool
-  pub old : S
-  pub new : S
-  pub input : Counts
-  pub output : Counts
-
-abbrev pub circumstances : {S : Type 0} → Bool → S → S → Counts → Counts → Circumstances S
-circumstances in_grammar old new input output =
-    record { in_grammar = in_grammar; old = old; new = new; input = input; output = output }
-
--- The words are out of the grammar; the store, the input or the output failed in this call. Over any store
--- its last answer shows why nonces or numbers are used up, or what broke.
-abbrev pub IsShown : {S : Type 0} → Ghosts S → Circumstances S → Fault → Type 0
-IsShown store call fault.Words = call.in_grammar ≡ false
-IsShown store call fault.Store = Rose (store.faults call.old) (store.faults call.new)
-IsShown store call fault.Input = HasRisen call.input
-IsShown store call fault.Output = HasRisen call.output
-IsShown store call why = IfSome (refusal_in why) (HasCause store call.old call.new)
-
--- Why a call was refused. Over a store that tells, nonces and numbers are used up where it says so, and
--- nothing is ever broken.
-pub record IsCaused {S : Type 0} (store : Ghosts S) (call : Circumstances S) (why : Fault) : Type 0 where
-  pub shown : IsShown store call why
-  pub reason : IsTrue store.tells → IfSome (refusal_in why) (HasReason (store.content call.new))
-
--- neither a nonce nor a number was wanting
-abbrev pub NoneSpent : Fault → Type 0
-NoneSpent why = IfSome (refusal_in why) IsUnspent
-
--- nothing failed
-pub record NothingFailed {S : Type 0} (store : Ghosts S) (call : Circumstances S) : Type 0 where
-  pub of_store : Rose (store.faults call.old) (store.faults call.new) → ⊥
-  pub of_input : HasRisen call.input → ⊥
-  pub of_output : HasRisen call.output → ⊥

@@ -4,4 +4,5 @@ pub mod Line
 pub mod Outcomes
 pub mod Output
 pub mod Script
+pub mod Causes
 pub mod Words

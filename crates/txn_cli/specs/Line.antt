@@ -14,9 +14,10 @@ use Rattle.txn_play.specs.declared.objection.Objection.{Objection}
 use Rattle.txn_play.specs.declared.refusal.Refusal.{Refusal}
 use Rattle.txn_play.specs.declared.refusal.Refusal.TheVariants as refusal
 use Rattle.txn_play.specs.declared.session.Session.{Session}
-use Rattle.txn_cli.specs.Faults.{Counts, FailsOnly, objection_text, refusal_in_stop}
+use Rattle.txn_cli.specs.Causes.{Counts, FailsOnly}
+use Rattle.txn_cli.specs.Faults.{objection_text, refusal_in_stop}
 use Rattle.txn_cli.specs.Output.{Writing, Wrote, WrotePart, answer_text, prints}
-use Rattle.txn_cli.specs.Script.{PlaysAs, RefusedAs, Stated, line_lets_run, line_may_run}
+use Rattle.txn_cli.specs.Script.{MayRefuseAs, PlaysAs, RefusedAs, Stated, line_lets_run, line_may_run}
 use Rattle.txn_cli.specs.declared.stop.Stop.{Stop}
 use Rattle.txn_cli.specs.declared.stop.Stop.TheVariants as stop
 
@@ -96,6 +97,17 @@ abbrev pub RefusedBy : Stated → Progress → Stop → Type 0
 RefusedBy stated p (stop.Misread why) = RefusedAs stated p (script_text why)
 RefusedBy stated p (stop.Refused (refusal.Objected why)) = RefusedAs stated p (objection_text why)
 RefusedBy stated p _ = Unit {0}
+
+-- the same, whatever the store holds
+abbrev pub MayStop : Stated → Stop → Type 0
+MayStop stated (stop.Misread why) = MayRefuseAs stated (script_text why)
+MayStop stated (stop.Refused (refusal.Objected why)) = MayRefuseAs stated (objection_text why)
+MayStop stated _ = Unit {0}
+
+-- what stops a statement is none of its line's faults
+abbrev pub IsOfStatement : Stop → Type 0
+IsOfStatement (stop.Misread why) = ⊥
+IsOfStatement _ = Unit {0}
 
 -- what stops a statement that was read; where something stands against it, it is this
 abbrev pub StoppedFor : Option Objection → Stop → Type 0

@@ -14,6 +14,7 @@ use Rattle.txn_script.specs.Texts.{cell_line, document_line, entry_line, key_tex
 use Rattle.txn_play.specs.declared.answer.Answer.{Answer}
 use Rattle.txn_play.specs.declared.answer.Answer.TheVariants.{Nothing, States, Documents, Cells, Order}
 use Rattle.txn_play.specs.declared.answer.RecordState.{RecordState}
+use Rattle.txn_cli.specs.Faults.{status_of}
 use Rattle.txn_cli.specs.declared.fault.Fault.{Fault}
 use Rattle.txn_cli.specs.declared.fault.Fault.TheVariants as fault
 use Rattle.txn_runner.specs.declared.error.StepError.{StepError}
@@ -89,6 +90,18 @@ fault_text (fault.Spent error) = step_text error
 fault_text (fault.Broken error) = step_text error
 fault_text (fault.Repeated id) = line (codes "clash " ++ id_text id)
 
+-- how a text ends
+pub record IsEnd (piece text : List ℕ) : Type 0 where
+  pub before : List ℕ
+  pub is : text ≡ before ++ piece
+
+-- the last line of a refusal stands at the end; it may be cut off, or be none, where memory was wanting or
+-- the output failed
+abbrev pub EndsIn : Fault → List ℕ → Type 0
+EndsIn fault.Output text = Unit {0}
+EndsIn fault.OutOfMemory text = Unit {0}
+EndsIn why text = IsEnd (fault_text why) text
+
 -- ---- what was written
 
 -- what a sink tells that was written before a call and after it
@@ -99,6 +112,11 @@ pub record Writing : Type 0 where
 
 abbrev pub writing : {O : Type 0} → Ghosts O → O → O → Writing
 writing sink old new = record { tells = sink.tells; before = sink.written old; after = sink.written new }
+
+-- a refusal was told by its status, and by the last line of what was written
+pub record HasTold {O : Type 0} (sink : Ghosts O) (output : O) (status : ℕ) (why : Fault) : Type 0 where
+  pub is : status ≡ status_of why
+  pub last : IsTrue sink.tells → EndsIn why (sink.written output)
 
 -- the piece was written
 abbrev pub Wrote : Writing → List ℕ → Type 0

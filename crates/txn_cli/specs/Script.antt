@@ -1,5 +1,5 @@
 -- A script, line by line: which lines were done, and which is refused.
-use Rattle.std.specs.Prelude.{◌≡◌, ◌≤◌, ℕ, zero, suc, ◌+◌, Bool, true, false, List, [], ◌∷◌, ◌++◌, Option, Some, None, Result, Ok, Err, codes, if◌then◌else◌}
+use Rattle.std.specs.Prelude.{◌≡◌, ◌≢◌, ◌≤◌, ℕ, zero, suc, ◌+◌, Bool, true, false, List, [], ◌∷◌, ◌++◌, Option, Some, None, Result, Ok, Err, codes, if◌then◌else◌}
 use Rattle.store_trait.specs.Contents.{Content}
 use Rattle.txn_io.specs.Lines.{after_line, line_cost, reading}
 use Rattle.txn_io.specs.declared.lines.LineFault.{LineFault}
@@ -33,6 +33,11 @@ after_lines (suc n) script = after_line (after_lines n script)
 abbrev pub taken_by : ℕ → List ℕ → ℕ
 taken_by zero script = 0
 taken_by (suc n) script = taken_by n script + line_cost (after_lines n script)
+
+-- a script has so many lines
+abbrev pub HasLines : ℕ → List ℕ → Type 0
+HasLines zero script = Unit {0}
+HasLines (suc n) script = after_lines n script ≢ []
 
 -- what stands behind the first n lines: a line, the end, or one that passes a limit
 abbrev pub next_of : ℕ → List ℕ → Result (Option (List ℕ)) LineFault
@@ -112,10 +117,24 @@ Refuses (Err line_fault.TooLong) p text = text ≡ codes "too long"
 Refuses (Err line_fault.ScriptTooLong) p text = text ≡ codes "script too long"
 Refuses (Err _) p text = ⊥
 
--- no line of a script is refused
-abbrev pub IsValid : List ℕ → (ℕ → Content) → Progress → Type 0
-IsValid script trail start = (n : ℕ) (p : Progress) (answers : List Answer) (text : List ℕ)
-    → Plays script trail start n p answers → Refuses (next_of n script) p text → ⊥
+-- the text of something that stands against a statement
+pub record IsObjection (text : List ℕ) : Type 0 where
+  pub why : Objection
+  pub is : text ≡ objection_text why
+
+-- By what texts a line may be refused, and what comes next, whatever the store holds. At the end it is a
+-- batch that isn't run.
+abbrev pub MayRefuseAs : Stated → List ℕ → Type 0
+MayRefuseAs (Ok None) text = ⊥
+MayRefuseAs (Ok (Some s)) text = IsObjection text
+MayRefuseAs (Err why) text = text ≡ script_text why
+
+abbrev pub MayRefuse : Result (Option (List ℕ)) LineFault → List ℕ → Type 0
+MayRefuse (Ok (Some line)) text = MayRefuseAs (line_in line) text
+MayRefuse (Ok None) text = text ≡ codes "not built yet"
+MayRefuse (Err line_fault.TooLong) text = text ≡ codes "too long"
+MayRefuse (Err line_fault.ScriptTooLong) text = text ≡ codes "script too long"
+MayRefuse (Err _) text = ⊥
 
 -- ---- where a batch may be on its way
 

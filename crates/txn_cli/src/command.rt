@@ -4,10 +4,10 @@ ghost use Rattle.std.specs.Prelude.{◌≡◌, ◌≢◌, ◌≤◌, ◌⊎◌, 
 ghost use Rattle.std.specs.List.{list_any};
 ghost use Rattle.store_trait.specs.Stores.{CallsGoOn};
 ghost use Rattle.txn_cli.specs.Call.{HasFaithfulRuns, HasPlayed, HasStopped, PlayedAll, PlayedPart, given, held, judged, returned, start, taken};
-ghost use Rattle.txn_cli.specs.Faults.{IsCaused, NothingFailed, circumstances, counts, fault_of_line, status_of, OrShort};
+ghost use Rattle.txn_cli.specs.Causes.{IsCaused, IsOfLine, NothingFailed, circumstances, counts, told_script};
+ghost use Rattle.txn_cli.specs.Faults.{fault_of_line, OrShort};
 ghost use Rattle.txn_cli.specs.Outcomes.{has_aborted, is_aborted};
-ghost use Rattle.txn_cli.specs.Output.{writing};
-ghost use Rattle.txn_cli.specs.Script.{IsValid};
+ghost use Rattle.txn_cli.specs.Output.{HasTold, writing};
 ghost use Rattle.txn_cli.specs.Words.{is_grammar};
 ghost use Rattle.txn_play.specs.Runs.{RunsGoOn};
 ghost use Rattle.txn_play.specs.Sessions.{IsNew};
@@ -47,10 +47,10 @@ pub fn command<S: Store, I: Source, O: Sink>(
     ensures refused { IfSome result.fault (PlayedPart S.Store I.Source O.Sink
         (given words.now store input.old output.old) (returned result input.new output.new)) }
 
-    // 1 says that some transaction was aborted; else the fault has the status.
+    // 1 says that some transaction was aborted; else the fault has the status and the last line.
     ensures ended { IfNone result.fault
         (result.status ≡ (if list_any has_aborted result.runs.items then 1 else 0)) }
-    ensures status { IfSome result.fault (λ fault. result.status ≡ status_of fault) }
+    ensures told { IfSome result.fault (HasTold O.Sink output.new result.status) }
     ensures read { IsTrue I.tells → IfNone result.fault (I.rest input.new ≡ []) }
 
     // Status 2 comes exactly where the words aren't in the grammar, unless the usage text can't be
@@ -61,14 +61,13 @@ pub fn command<S: Store, I: Source, O: Sink>(
     ensures caused { IfSome result.fault (IsCaused S.Store (judged I.Source O.Sink
         (given words.now store input.old output.old) (returned result input.new output.new))) }
 
-    // Where the words are in the grammar, no line is refused and nothing failed, every line is done, unless
+    // Where the words are in the grammar and nothing failed, every line is done, unless one is refused or
     // memory is wanting: a script has fewer lines than there are nonces, or numbers for a document.
     ensures complete { IsTrue I.tells → IsTrue S.tells →
         IsTrue (is_grammar (map string_bytes words.now)) →
-        IsValid (I.rest input.old) (S.trail result.store) (start S.Store store) →
         NothingFailed S.Store (judged I.Source O.Sink
         (given words.now store input.old output.old) (returned result input.new output.new)) →
-        (result.fault ≡ None) ⊎ (result.fault ≡ Some Fault.OutOfMemory) }
+        IfSome result.fault IsOfLine }
     ensures kept { CallsGoOn S.Store store result.store }
 {
     let mut session = Session {
@@ -128,8 +127,9 @@ fn run<S: Store, I: Source, O: Sink>(
     ensures runs { IsTrue S.tells →
         RunsGoOn (S.trail session.new.store) session.new.runs.items (S.calls session.new.store) }
     ensures caused { IfErr result
-        (IsCaused S.Store (circumstances (is_grammar (map string_bytes words.now)) session.old.store
-        session.new.store (counts (I.faults input.old) (I.faults input.new))
+        (IsCaused S.Store (circumstances (is_grammar (map string_bytes words.now))
+        (told_script I.Source input.old) session.old.store session.new.store
+        (counts (I.faults input.old) (I.faults input.new))
         (counts (O.faults output.old) (O.faults output.new)))) }
     ensures kept { CallsGoOn S.Store session.old.store session.new.store }
     ensures later { O.faults output.old ≤ O.faults output.new }

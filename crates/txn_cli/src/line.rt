@@ -1,11 +1,12 @@
 //! One line of a script: what it states is done, and what that answers is written.
 
 ghost use Rattle.std.specs.Prelude.{◌≡◌, [], true, IsTrue, OnOk, IfErr};
-ghost use Rattle.txn_cli.specs.Faults.{counts};
-ghost use Rattle.txn_cli.specs.Line.{HasDone, HasDoneLine, HasStoppedLine, IsKeptLine, LeftBy, RunsFirst, RunsWaiting, StoppedFirst, StoppedFor, performing, running, running_first};
+ghost use Rattle.txn_cli.specs.Causes.{counts};
+ghost use Rattle.txn_cli.specs.Line.{HasDone, HasDoneLine, HasStoppedLine, IsKeptLine, IsOfStatement, LeftBy, MayStop, RunsFirst, RunsWaiting, StoppedFirst, StoppedFor, performing, running, running_first};
 ghost use Rattle.txn_cli.specs.Output.{writing};
 ghost use Rattle.txn_play.specs.Progress.{Does, lets_run, objection_at_end, objection_to};
 ghost use Rattle.txn_play.specs.Sessions.{Stands, at};
+ghost use Rattle.txn_script.specs.Statements.{line_in};
 
 use crate::output::write_answer;
 use crate::stop::Stop;
@@ -30,6 +31,7 @@ pub fn play_line<S: Store, O: Sink>(
     ensures stopped { IsTrue S.tells → IfErr result
         (HasStoppedLine S.Store line.now session.old session.new
         (writing O.Sink output.old output.new)) }
+    ensures may { IfErr result (MayStop (line_in line.now)) }
     ensures kept { IsKeptLine S.Store session.old session.new
         (counts (O.faults output.old) (O.faults output.new)) result }
 {
@@ -108,6 +110,7 @@ fn play_statement<S: Store, O: Sink>(
         session.old session.new (writing O.Sink output.old output.new)) }
     ensures against { IsTrue S.tells → IfErr result
         (StoppedFor (objection_to (at S.Store session.old) statement)) }
+    ensures read { IfErr result IsOfStatement }
     ensures kept { IsKeptLine S.Store session.old session.new
         (counts (O.faults output.old) (O.faults output.new)) result }
 {

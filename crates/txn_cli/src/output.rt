@@ -1,7 +1,7 @@
 //! What is written: the lines of answers, and the last line of a refusal.
 
 ghost use Rattle.std.specs.Prelude.{◌≡◌, ◌≢◌, ◌≤◌, ◌⊎◌, [], Err, true, IsTrue, OnOk, OnErr, IfErr};
-ghost use Rattle.txn_cli.specs.Faults.{FailsOnly, counts, HasRisen};
+ghost use Rattle.txn_cli.specs.Causes.{FailsOnly, counts, HasRisen};
 ghost use Rattle.txn_cli.specs.Output.{Wrote, WroteOrFailed, WrotePart, answer_text, fault_text, prints, writing};
 ghost use Rattle.txn_play.specs.declared.refusal.Refusal.TheVariants.{OutOfMemory as NoMemory};
 

@@ -1,11 +1,11 @@
 -- What a call for one statement comes to: what is against it, and how it is refused.
-use Rattle.std.proofs.Common.{◌≡◌, ◌⊎◌, Bool, true, false, not, ◌&&◌, cond, nat_le, length, List, [], Option, Some, None, Result, Ok, Err, IsTrue, IfErr, IsErrOf, ⊎_elim, inl, inr, refl, sym, ap, ◌∙◌, subst}
+use Rattle.std.proofs.Common.{◌≡◌, ◌⊎◌, Bool, true, false, not, ◌&&◌, cond, nat_le, length, List, [], Option, Some, None, Result, Ok, Err, IsTrue, IfErr, IsErrOf, OnErr, ⊎_elim, inl, inr, refl, sym, ap, ◌∙◌, subst}
 use Rattle.std.specs.FinMap.{insert}
 use Rattle.std.specs.Prelude.{IfOk, OnOk, OnErr}
 use Rattle.doc_value.specs.declared.value.Value.{Value}
 use Rattle.txn_key.specs.declared.key.Key.{Key}
 use Rattle.store_trait.specs.Calls.{Rose}
-use Rattle.store_trait.specs.Stores.{CallsGoOn}
+use Rattle.store_trait.specs.Stores.{CallsGoOn, OneCall}
 use Rattle.store_trait.specs.declared.cell.Cell.{Cell}
 use Rattle.store_trait.specs.declared.name.Name.{Name}
 use Rattle.store_trait.specs.declared.name.Name.TheVariants as name
@@ -25,7 +25,7 @@ use Rattle.txn_play.specs.Progress.{Progress, against, against_placing, against_
 use Rattle.txn_play.specs.Refusals.{CallsAlone, HasCause, HasReason, IsOfRun, IsUnspent, refusal_of_store}
 use Rattle.txn_play.specs.Remains.{HasLeft, Stays}
 use Rattle.txn_play.specs.Runs.{RunsGoOn}
-use Rattle.txn_play.specs.Sessions.{HasAttended, HasEnough, IsAgainst, IsCaused, IsKept, IsRefused, Stands, at, holding}
+use Rattle.txn_play.specs.Sessions.{HasAttended, HasEnough, IsAgainst, IsCaused, IsKept, IsRefused, KeepsRest, Stands, at, holding}
 use Rattle.txn_play.specs.declared.answer.Answer.{Answer}
 use Rattle.txn_play.specs.declared.answer.Answer.TheVariants.{Nothing}
 use Rattle.txn_play.specs.declared.objection.Objection.{Objection}
@@ -34,7 +34,7 @@ use Rattle.txn_play.specs.declared.refusal.Refusal.{Refusal}
 use Rattle.txn_play.specs.declared.refusal.Refusal.TheVariants as refusal
 use Rattle.txn_play.specs.declared.run.Run.{Run}
 use Rattle.txn_play.specs.declared.session.Session.{Session}
-use Rattle.txn_runner.proofs.CallsMade.{calls_then, rose_before}
+use Rattle.store_laws.proofs.trails.CallsMade.{call_after, calls_then, rose_before}
 use Rattle.txn_play.proofs.BatchRuns.{stays_left}
 use Rattle.txn_play.proofs.Sessions.{no_run_yet, placing_stands}
 
@@ -94,24 +94,27 @@ failed_caused store old new (refusal.Broken e) h = absurd (⊎_elim (λ x. cc) (
 failed_caused store old new (refusal.Repeated id) h = absurd (⊎_elim (λ x. cc) (λ x. cc) h.other)
 
 pub failed_refused : {S T : Type 0} (store : Ghosts S) (may_run : Bool) (old new : Session S) (why : Refusal) → CallsAlone {T = T} store old.store new.store (Err why)
-    → (IsTrue store.tells → store.content new.store ≡ store.content old.store) → new.runs.items ≡ old.runs.items → IsRefused store may_run old new why
-failed_refused store may_run old new why h same runs = record {
+    → (IsTrue store.tells → store.content new.store ≡ store.content old.store) → new.runs.items ≡ old.runs.items → KeepsRest old new → IsRefused store may_run old new why
+failed_refused store may_run old new why h same runs rest = record {
+  rest = rest;
   left = λ told. stays_left may_run old.batch (store.trail new.store) (holding store old) (holding store new) why (record { holds = same told; runs = runs });
   caused = failed_caused store old new why h;
 }
 
 -- an objection leaves all as it was
 pub objected_refused : {S : Type 0} (store : Ghosts S) (may_run : Bool) (old new : Session S) (why : Objection)
-    → (IsTrue store.tells → store.content new.store ≡ store.content old.store) → new.runs.items ≡ old.runs.items → IsRefused store may_run old new (refusal.Objected why)
-objected_refused store may_run old new why same runs = record {
+    → (IsTrue store.tells → store.content new.store ≡ store.content old.store) → new.runs.items ≡ old.runs.items → KeepsRest old new → IsRefused store may_run old new (refusal.Objected why)
+objected_refused store may_run old new why same runs rest = record {
+  rest = rest;
   left = λ told. record { holds = same told; runs = runs };
   caused = record { fault = λ e. absurd (cc); reason = λ told. tt; enough = λ told enough. tt; cause = tt };
 }
 
 -- nor does want of memory
 pub memory_refused : {S : Type 0} (store : Ghosts S) (may_run : Bool) (old new : Session S)
-    → (IsTrue store.tells → store.content new.store ≡ store.content old.store) → new.runs.items ≡ old.runs.items → IsRefused store may_run old new refusal.OutOfMemory
-memory_refused store may_run old new same runs = record {
+    → (IsTrue store.tells → store.content new.store ≡ store.content old.store) → new.runs.items ≡ old.runs.items → KeepsRest old new → IsRefused store may_run old new refusal.OutOfMemory
+memory_refused store may_run old new same runs rest = record {
+  rest = rest;
   left = λ told. inl (record { holds = same told; runs = runs });
   caused = record { fault = λ e. absurd (cc); reason = λ told. tt; enough = λ told enough. tt; cause = tt };
 }
@@ -131,6 +134,22 @@ calls_after store a b c (refusal.Spent x) on h = absurd (⊎_elim (λ e. cc) (λ
 calls_after store a b c (refusal.Broken x) on h = absurd (⊎_elim (λ e. cc) (λ e. cc) h.other)
 calls_after store a b c (refusal.Repeated x) on h = absurd (⊎_elim (λ e. cc) (λ e. cc) h.other)
 
+-- calls on the store, and then one that was refused
+pub alone_after : {S T U : Type 0} (store : Ghosts S) (a b c : S) (result : Result T Refusal) (why : Refusal) → result ≡ Err why → CallsGoOn store a b
+    → OneCall store b c result refusal.Store → OnErr result ((result ≡ Err refusal.Store) ⊎ (result ≡ Err refusal.OutOfMemory)) → CallsAlone {T = U} store a c (Err why)
+alone_after {S} {T} {U} store a b c result why is on one other = by why is (subst (λ (r : Result T Refusal). OnErr r ((r ≡ Err refusal.Store) ⊎ (r ≡ Err refusal.OutOfMemory))) is other)
+  where
+    calls : CallsGoOn store a c
+    calls = call_after store a b c result refusal.Store on one
+
+    by : (w : Refusal) → result ≡ Err w → (failed {T = T} w ≡ failed refusal.Store) ⊎ (failed {T = T} w ≡ failed refusal.OutOfMemory) → CallsAlone {T = U} store a c (Err w)
+    by refusal.Store same h = record { calls = calls; fault = λ e. rose_before on.later (one.fault same); other = inl refl }
+    by refusal.OutOfMemory same h = record { calls = calls; fault = λ e. absurd (cc); other = inr refl }
+    by (refusal.Objected w) same h = absurd (⊎_elim (λ e. cc) (λ e. cc) h)
+    by (refusal.Spent x) same h = absurd (⊎_elim (λ e. cc) (λ e. cc) h)
+    by (refusal.Broken x) same h = absurd (⊎_elim (λ e. cc) (λ e. cc) h)
+    by (refusal.Repeated x) same h = absurd (⊎_elim (λ e. cc) (λ e. cc) h)
+
 -- ---- a cell is placed
 
 module _ {S : Type 0} (store : Ghosts S) (old new : Session S) (stands : Stands store old) (cleared : old.batch ≡ []) (under : Name) (cell : Cell)
@@ -138,12 +157,13 @@ module _ {S : Type 0} (store : Ghosts S) (old new : Session S) (stands : Stands 
   -- nothing was placed
   pub placing_refused : (s : Statement) (why : Refusal) → against (at store old) s ≡ against_placing (at store old) under cell
       → (IsTrue store.tells → IsAgainst (against_placing (at store old) under cell) why) → (IsTrue store.tells → store.content new.store ≡ store.content old.store)
-      → (old.begun ≡ true → new.store ≡ old.store) → IsCaused store old new why → HasAttended store s old new (Err why)
-  placing_refused s why is objected left idle caused = record {
+      → (old.begun ≡ true → new.store ≡ old.store) → new.documents_alone ≡ old.documents_alone → IsCaused store old new why → HasAttended store s old new (Err why)
+  placing_refused s why is objected left idle alone caused = record {
     done = λ told. tt;
     against = λ told. subst (λ (o : Option Objection). IsAgainst o why) (sym (nothing_first (at store old) s cleared ∙ is)) (objected told);
     refused = record {
       left = λ told. stays_left (runs_batch s) old.batch (store.trail new.store) (holding store old) (holding store new) why (record { holds = left told; runs = runs });
+      rest = record { batch = batch; begun = begun; alone = alone };
       caused = caused;
     };
     kept = record { stands = tt; runs = λ told. by old.begun refl (stands told).runs told; calls = calls };
@@ -171,6 +191,7 @@ module _ {S : Type 0} (store : Ghosts S) (old new : Session S) (stands : Stands 
         let it = placed told in
         let here : store.content new.store ≡ insert (store.content old.store) (name.Doc key) (placed_doc body) = it.1 ∙ (λ i. insert (store.content old.store) (is_under i) (is_cell i)) in
         record {
+          cleared = λ lets. cleared;
           allowed = nothing_first (at store old) (statement.Doc key body) cleared ∙ (λ i. against_placing (at store old) (sym is_under i) (sym is_cell i)) ∙ it.0;
           performs = (λ i. record { content = here i; calls = store.calls new.store; waiting = batch i; begun = begun i; documents_alone = alone i; runs = runs i }, refl);
         };
@@ -186,6 +207,7 @@ module _ {S : Type 0} (store : Ghosts S) (old new : Session S) (stands : Stands 
     done = λ told.
         let it = placed told in
         record {
+          cleared = λ lets. cleared;
           allowed = nothing_first (at store old) (statement.Place under cell) cleared ∙ it.0;
           performs = (λ i. record { content = it.1 i; calls = store.calls new.store; waiting = batch i; begun = begun i; documents_alone = alone i; runs = runs i }, refl);
         };

@@ -13,7 +13,8 @@ use Rattle.txn_play.specs.declared.refusal.Refusal.{Refusal}
 use Rattle.txn_play.specs.declared.refusal.Refusal.TheVariants as refusal
 use Rattle.store_laws.specs.View.{record_at, look, was_decided, state_passes}
 use Rattle.txn_runner.specs.Numbers.{Uses}
-use Rattle.txn_runner.specs.Running.{HasRun, OnlyReads}
+use Rattle.store_laws.specs.Reads.{OnlyReads}
+use Rattle.txn_runner.specs.Running.{HasRun}
 use Rattle.txn_play.specs.Runs.{RunsGoOn}
 use Rattle.txn_play.specs.declared.run.Run.{Run}
 use Rattle.txn_play.specs.declared.answer.RecordState.{RecordState}
@@ -51,7 +52,8 @@ pub ran_batch : {S : Type 0} (store : Ghosts S) (old now : S) (waiting : List Wa
     → RanBatch (store.content old) (store.content now) waiting run states
 ran_batch store old now waiting run states may was is mark base turns works uses done has from = record {
   opens = may.calm.sound;
-  closes = done.calm.sound;
+  step = works.step;
+  calm = done.calm;
   base = base;
   legal = run_legal (store.trail now) run.mark (store.calls now) run.base run.order has;
   means = ap meaning (sym is) ∙ run_means (store.trail now) run.mark (store.calls now) run.base run.order has;

@@ -3,8 +3,10 @@ use Rattle.std.proofs.Common.{◌≡◌, ℕ, ◌≤◌, Result, Ok, Err, IsErrO
 use Rattle.std.specs.Prelude.{IfErr}
 use Rattle.txn_key.specs.declared.id.TxnId.{TxnId}
 use Rattle.store_trait.specs.Calls.{Exchange, Rose}
+use Rattle.store_trait.specs.Exchanges.{Exchanged}
 use Rattle.store_trait.specs.Contents.{Content}
 use Rattle.store_trait.specs.declared.store.Store.{Ghosts}
+use Rattle.store_laws.proofs.trails.Exchanges.{joined}
 use Rattle.txn_runner.specs.Causes.{HasCause as StepHasCause, LastShows, ShowsClash}
 use Rattle.txn_runner.specs.Numbers.{Suffices, Uses, size_of}
 use Rattle.txn_runner.specs.declared.error.StepError.{StepError}
@@ -16,38 +18,38 @@ use Rattle.txn_play.specs.declared.refusal.Refusal.TheVariants as refusal
 use Rattle.txn_play.specs.declared.session.Session.{Session}
 
 module _ {S : Type 0} (store : Ghosts S) where
-  shows_before : (first old new : S) (Shows : Exchange → Type 0) → store.calls first ≤ store.calls old → LastShows store old new Shows → LastShows store first new Shows
-  shows_before first old new Shows le it = record {
+  shows_before : (first old new : S) (Shows : Exchange → Type 0) → Exchanged store first old → LastShows store old new Shows → LastShows store first new Shows
+  shows_before first old new Shows chain it = record {
     before = it.before;
     exchange = it.exchange;
-    since = omega (arith, le, it.since);
+    since = joined store first old it.before chain it.since;
     last = it.last;
     answer = it.answer;
     shows = it.shows;
   }
 
   -- what was answered in later calls was answered since before
-  pub caused_before : (first old new : S) (why : Refusal) → store.calls first ≤ store.calls old → HasCause store old new why → HasCause store first new why
-  caused_before first old new (refusal.Spent step.NoncesSpent) le h = shows_before first old new _ le h
-  caused_before first old new (refusal.Spent (step.RevnoSpent key)) le h = shows_before first old new _ le h
-  caused_before first old new (refusal.Broken (step.Clash id at)) le h = shows_before first old new _ le h
-  caused_before first old new (refusal.Repeated id) le h = shows_before first old new _ le h
-  caused_before first old new (refusal.Spent step.StoreFault) le h = h
-  caused_before first old new (refusal.Spent step.OutOfMemory) le h = h
-  caused_before first old new (refusal.Spent (step.Lost token)) le h = h
-  caused_before first old new (refusal.Spent (step.Clash id at)) le h = h
-  caused_before first old new (refusal.Broken step.StoreFault) le h = h
-  caused_before first old new (refusal.Broken step.OutOfMemory) le h = h
-  caused_before first old new (refusal.Broken step.NoncesSpent) le h = h
-  caused_before first old new (refusal.Broken (step.RevnoSpent key)) le h = h
-  caused_before first old new (refusal.Broken (step.Lost token)) le h = h
-  caused_before first old new (refusal.Objected w) le h = tt
-  caused_before first old new refusal.Store le h = tt
-  caused_before first old new refusal.OutOfMemory le h = tt
+  pub caused_before : (first old new : S) (why : Refusal) → Exchanged store first old → HasCause store old new why → HasCause store first new why
+  caused_before first old new (refusal.Spent step.NoncesSpent) chain h = shows_before first old new _ chain h
+  caused_before first old new (refusal.Spent (step.RevnoSpent key)) chain h = shows_before first old new _ chain h
+  caused_before first old new (refusal.Broken (step.Clash id at)) chain h = shows_before first old new _ chain h
+  caused_before first old new (refusal.Repeated id) chain h = shows_before first old new _ chain h
+  caused_before first old new (refusal.Spent step.StoreFault) chain h = h
+  caused_before first old new (refusal.Spent step.OutOfMemory) chain h = h
+  caused_before first old new (refusal.Spent (step.Lost token)) chain h = h
+  caused_before first old new (refusal.Spent (step.Clash id at)) chain h = h
+  caused_before first old new (refusal.Broken step.StoreFault) chain h = h
+  caused_before first old new (refusal.Broken step.OutOfMemory) chain h = h
+  caused_before first old new (refusal.Broken step.NoncesSpent) chain h = h
+  caused_before first old new (refusal.Broken (step.RevnoSpent key)) chain h = h
+  caused_before first old new (refusal.Broken (step.Lost token)) chain h = h
+  caused_before first old new (refusal.Objected w) chain h = tt
+  caused_before first old new refusal.Store chain h = tt
+  caused_before first old new refusal.OutOfMemory chain h = tt
 
-  pub causes_before : {T : Type 0} (first old new : S) (result : Result T Refusal) → store.calls first ≤ store.calls old → IfErr result (HasCause store old new) → IfErr result (HasCause store first new)
-  causes_before first old new (Ok x) le h = tt
-  causes_before first old new (Err why) le h = caused_before first old new why le h
+  pub causes_before : {T : Type 0} (first old new : S) (result : Result T Refusal) → Exchanged store first old → IfErr result (HasCause store old new) → IfErr result (HasCause store first new)
+  causes_before first old new (Ok x) chain h = tt
+  causes_before first old new (Err why) chain h = caused_before first old new why chain h
 
   -- the cause of a step's refusal is that of the statement's
   pub caused_step : (old new : S) (id : TxnId) (error : StepError) → StepHasCause store old new id error → HasCause store old new (refusal_of_step error)

@@ -19,7 +19,7 @@ use Rattle.store_trait.specs.declared.cell.Cell.{Cell}
 use Rattle.store_trait.specs.declared.cell.Named.{Named}
 use Rattle.store_trait.specs.declared.name.Name.{Name}
 use Rattle.store_trait.specs.declared.store.Store.{Ghosts}
-use Rattle.txn_runner.specs.Running.{OnlyReads}
+use Rattle.store_laws.specs.Reads.{OnlyReads}
 use Rattle.txn_play.specs.Progress.{cells_of}
 
 abbrev Entry : Type 0

@@ -3,7 +3,7 @@ use Rattle.std.proofs.Common.{ℕ, Bool, List, IsTrue}
 use Rattle.store_trait.specs.Stores.{CallsGoOn}
 use Rattle.store_trait.specs.Contents.{Content}
 use Rattle.store_laws.specs.Soundness.{IsSound}
-use Rattle.txn_runner.specs.Running.{OnlyReads}
+use Rattle.store_laws.specs.Reads.{OnlyReads}
 use Rattle.txn_play.specs.Runs.{RunsGoOn}
 use Rattle.txn_play.specs.declared.run.Run.{Run}
 use Rattle.txn_play.proofs.Runs.{runs_same, runs_read}

@@ -29,8 +29,9 @@ use Rattle.store_laws.proofs.cells.Empty.{empty_sound, empty_rests}
 use Rattle.store_laws.proofs.steps.PlainEdits.{plain_empty, plain_place}
 use Rattle.store_laws.proofs.cells.Records.{same_id-equal}
 use Rattle.txn_play.specs.Batches.{waits, are_distinct, Every, MayBegin, MayRun}
+use Rattle.store_laws.proofs.trails.CallsMade.{calls_none}
 use Rattle.txn_runner.specs.Calm.{IsCalm}
-use Rattle.txn_runner.specs.Running.{OnlyReads}
+use Rattle.store_laws.specs.Reads.{OnlyReads}
 use Rattle.txn_play.specs.Progress.{Progress, against_placing, placed_doc}
 use Rattle.txn_play.specs.Runs.{RunsGoOn}
 use Rattle.txn_play.specs.Sessions.{IsBetween, IsKept, Stands}
@@ -188,14 +189,6 @@ module _ {S : Type 0} (store : Ghosts S) (old new : Session S) (h : IsBetween st
   }
 
 -- ---- calls that were refused, or made none
-
--- no call was made
-pub calls_none : {S : Type 0} (store : Ghosts S) (s : S) → (IsTrue store.tells → store.trail s (store.calls s) ≡ store.content s) → CallsGoOn store s s
-calls_none store s present = record {
-  trail = λ told. record { before = λ n le. refl; here = present told };
-  counted = omega arith;
-  later = omega arith;
-}
 
 -- a refusal after calls that only read leaves the Runs
 pub refused_reading : {S T E : Type 0} (store : Ghosts S) (old new : Session S) (why : E) → Stands store old

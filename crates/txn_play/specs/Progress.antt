@@ -16,8 +16,10 @@ use Rattle.store_trait.specs.declared.name.Name.{Name}
 use Rattle.store_trait.specs.declared.name.Name.TheVariants as name
 use Rattle.store_laws.specs.Meaning.{meaning}
 use Rattle.store_laws.specs.Soundness.{IsSound}
+use Rattle.store_laws.specs.Steps.{IsStep}
 use Rattle.store_laws.specs.View.{record_at}
 use Rattle.txn_runner.specs.Built.{is_built}
+use Rattle.txn_runner.specs.Calm.{IsCalm}
 use Rattle.txn_runner.specs.Numbers.{Uses}
 use Rattle.txn_runner.specs.Store.{has_document, has_record}
 use Rattle.txn_runner.specs.declared.waiting.Waiting.{Waiting}
@@ -143,14 +145,16 @@ objection_to p s =
 
 -- ---- what a statement does
 
--- A batch was run over the one content, and left the other. The Run's base is what the store meant, and
--- the order is legal and leads to what the store means now. Each transaction of the batch is applied or
+-- A batch was run over the one content, and left the other: nothing went back, and nobody has anything left
+-- to do. The Run's base is what the store meant, and the order is legal and leads to what the store means
+-- now. Each transaction of the batch is applied or
 -- aborted and has its entry, and the order has no others; no other record was touched. Each used at most
 -- one nonce, and one number of a document. One runner alone takes no turns.
 pub record RanBatch (old new : Content) (waiting : List Waiting) (run : Run) (states : List RecordState)
     : Type 0 where
   pub opens : IsSound old
-  pub closes : IsSound new
+  pub step : IsStep old new
+  pub calm : IsCalm new
   pub base : run.base ≡ meaning old
   pub legal : legal run.base run.order ≡ true
   pub means : meaning new ≡ after run.base run.order
@@ -187,14 +191,13 @@ cells_of content = map named (entries content)
 abbrev pub decided_in : List Run → List Entry
 decided_in runs = flat_map (λ run. run.order) runs
 
--- nothing waits, nothing changes, and this is answered
+-- nothing changes, and this is answered
 pub record Tells (p q : Progress) (said expected : Answer) : Type 0 where
-  pub none_waits : p.waiting ≡ []
   pub stays : q ≡ record p { begun = true; calls = q.calls }
   pub answers : said ≡ expected
 
 -- What a statement does, and what it answers, where nothing is against it. How many calls it takes isn't
--- said. A batch that waits has run before what lets it.
+-- said.
 abbrev pub Performs : Statement → Progress → Progress → Answer → Type 0
 Performs (statement.Doc key body) p q said =
     (q ≡ record p { content = insert p.content (name.Doc key) (placed_doc body); calls = q.calls })
@@ -214,8 +217,9 @@ Performs statement.Show p q said = Tells p q said (answer.Documents (meaning p.c
 Performs statement.Export p q said = Tells p q said (answer.Cells (cells_of p.content))
 Performs statement.Order p q said = Tells p q said (answer.Order (decided_in p.runs))
 
--- nothing is against a statement, and it was done
+-- Nothing is against a statement, and it was done. A batch that waits has run before what lets it.
 pub record Does (s : Statement) (p q : Progress) (said : Answer) : Type 0 where
+  pub cleared : lets_run s ≡ true → p.waiting ≡ []
   pub allowed : objection_to p s ≡ None
   pub performs : Performs s p q said
 

@@ -75,12 +75,19 @@ abbrev pub IsAgainst : Option Objection → Refusal → Type 0
 IsAgainst against (refusal.Objected why) = against ≡ Some why
 IsAgainst against _ = Unit {0}
 
--- What the refusal of a call leaves, over a store that tells, and its cause: a batch may be on its way where
--- the call runs one.
+-- who waits stays, and so does what is known of the statements so far
+pub record KeepsRest {S : Type 0} (old new : Session S) : Type 0 where
+  pub batch : new.batch ≡ old.batch
+  pub begun : new.begun ≡ old.begun
+  pub alone : new.documents_alone ≡ old.documents_alone
+
+-- What the refusal of a call leaves, of the store and the Runs where the store tells, and its cause: a batch
+-- may be on its way where the call runs one.
 pub record IsRefused {S : Type 0} (store : Ghosts S) (may_run : Bool) (old new : Session S) (why : Refusal)
     : Type 0 where
   pub left : IsTrue store.tells → HasLeft may_run old.batch (store.trail new.store)
       (holding store old) (holding store new) why
+  pub rest : KeepsRest old new
   pub caused : IsCaused store old new why
 
 -- a statement was done, or refused by the first objection to it or for a cause; and what each call keeps is kept

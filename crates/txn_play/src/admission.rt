@@ -7,7 +7,7 @@ ghost use Rattle.store_trait.specs.Names.{may_stand};
 ghost use Rattle.txn_play.specs.Progress.{has_no_cell, may_settle, placed_doc};
 ghost use Rattle.txn_play.specs.Refusals.{CallsAlone};
 ghost use Rattle.txn_runner.specs.Built.{is_built};
-ghost use Rattle.txn_runner.specs.Running.{OnlyReads};
+ghost use Rattle.store_laws.specs.Reads.{OnlyReads};
 ghost use Rattle.txn_runner.specs.Store.{has_record};
 
 use crate::objection::Objection;
@@ -72,7 +72,8 @@ pub fn against_record<S: Store>(
 ) -> Result<Option<Objection>, Refusal>
     ensures answer { IsTrue S.tells → IfOk result (λ against.
         against ≡ (if has_record (S.content store.old) id then Some Objection.IdExists
-        else (if may_settle (S.content store.old) ops.now then None else Some Objection.NotBuilt))) }
+        else (if may_settle (S.content store.old) ops.now then None
+        else Some Objection.NotBuilt))) }
     ensures built { IfOk result (λ against. against ≡ None → is_built ops.now ≡ true) }
     ensures reads { IsTrue S.tells → OnlyReads S.Store store.old store.new }
     ensures kept { CallsAlone S.Store store.old store.new result }

@@ -6,7 +6,7 @@ ghost use Rattle.store_trait.specs.Contents.{first_past, named};
 ghost use Rattle.store_trait.specs.Stores.{OneCall};
 ghost use Rattle.txn_play.specs.Progress.{cells_of};
 ghost use Rattle.txn_play.specs.Refusals.{CallsAlone};
-ghost use Rattle.txn_runner.specs.Running.{OnlyReads};
+ghost use Rattle.store_laws.specs.Reads.{OnlyReads};
 
 use crate::refusal::Refusal;
 use sqlite_items::Items;

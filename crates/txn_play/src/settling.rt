@@ -44,7 +44,11 @@ pub fn run_batch<S: Store>(
     ensures calm { IsTrue S.tells → OnOk result (IsCalm (S.content store.new)) }
     ensures left { IsTrue S.tells → IfErr result (HasLeft true batch.now (S.trail store.new)
         (record { content = S.content store.old; calls = S.calls store.old; runs = runs.old.items })
-        (record { content = S.content store.new; calls = S.calls store.new; runs = runs.new.items })) }
+        (record {
+          content = S.content store.new;
+          calls = S.calls store.new;
+          runs = runs.new.items;
+        })) }
     ensures reason { IsTrue S.tells → IfErr result (HasReason (S.content store.new)) }
     ensures enough { IsTrue S.tells → Suffices (S.content store.old) (length batch.now) →
         IfErr result IsUnspent }

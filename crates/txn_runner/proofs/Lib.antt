@@ -7,9 +7,7 @@ pub mod Preparing
 pub mod Looking
 pub mod Deciding
 pub mod Submitting
-pub mod CallsMade
 pub mod Numbers
 pub mod Answered
 pub mod Listed
-pub mod OnlyReading
 pub mod Unended

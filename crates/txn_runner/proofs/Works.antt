@@ -5,6 +5,7 @@ use Rattle.std.proofs.lemmas.List.Folds.{list_all-append}
 use Rattle.txn_key.specs.declared.id.TxnId.{TxnId}
 use Rattle.txn_record.specs.declared.entry.Entry.{Entry}
 use Rattle.txn_record.specs.declared.record.Record.{Record}
+use Rattle.store_trait.specs.Exchanges.{Exchanged}
 use Rattle.store_trait.specs.Stores.{OneCall}
 use Rattle.store_trait.specs.declared.edit.Edit.{Edit}
 use Rattle.store_trait.specs.declared.name.Name.{Name}
@@ -79,7 +80,7 @@ pub call_err : {S T U E : Type 0} (store : Ghosts S) (old new : S) (result : Res
     → result ≡ Err error → OneCall store old new result failed → OneCall {T = U} store old new (Err error) failed
 call_err {S} {T} {U} {E} store old new result error failed is one =
     let o = subst (λ (r : Result T E). OneCall store old new r failed) is one in
-    record { trail = o.trail; counted = tt; counted_err = o.counted_err; later = o.later; fault = λ same. o.fault (ap Err (same_error error failed same)); still = still_err error failed o.still }
+    record { trail = o.trail; counted = tt; counted_err = o.counted_err; chain = o.chain; later = o.later; fault = λ same. o.fault (ap Err (same_error error failed same)); still = still_err error failed o.still }
 
 -- a step that is refused for memory before its call
 pub refused_idly : {S T : Type 0} (store : Ghosts S) (s : S)
@@ -88,6 +89,7 @@ refused_idly store s present = record {
   trail = λ told. record { before = λ n le. refl; here = present told };
   counted = tt;
   counted_err = inr refl;
+  chain = Exchanged.Nothing s;
   later = omega arith;
   fault = λ fails. absurd (cc fails);
   still = inr refl;

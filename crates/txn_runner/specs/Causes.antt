@@ -3,6 +3,7 @@ use Rattle.std.specs.Prelude.{◌≡◌, ◌<◌, ◌≤◌, ◌+◌, ◌-◌, �
 use Rattle.txn_key.specs.declared.id.TxnId.{TxnId}
 use Rattle.txn_key.specs.declared.key.Key.{Key}
 use Rattle.store_trait.specs.Calls.{Exchange, Reads, Edits}
+use Rattle.store_trait.specs.Exchanges.{Exchanged}
 use Rattle.store_trait.specs.Cells.{as_counter}
 use Rattle.store_trait.specs.declared.cell.Cell.{Cell}
 use Rattle.store_trait.specs.Edits.{nonce_limit}
@@ -100,11 +101,11 @@ ShowsEnd id outcome _ = ⊥
 
 -- ---- why a step is refused, over a store that tells nothing too
 
--- The last call on a store was made since then, and was answered in a way that shows this.
+-- Calls were made since then, of which the last was answered in a way that shows this.
 pub record LastShows {S : Type 0} (store : Ghosts S) (old new : S) (Shows : Exchange → Type 0) : Type 0 where
   pub before : S
   pub exchange : Exchange
-  pub since : store.calls old ≤ store.calls before
+  pub since : Exchanged store old before
   pub last : store.calls new ≡ store.calls before + 1
   pub answer : store.answered before exchange new
   pub shows : Shows exchange

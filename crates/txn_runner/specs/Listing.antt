@@ -14,7 +14,7 @@ use Rattle.store_trait.specs.declared.name.Name.TheVariants as name
 use Rattle.store_laws.specs.Plain.{body_at}
 use Rattle.txn_runner.specs.declared.documents.Next.{Next}
 use Rattle.txn_runner.specs.declared.documents.Next.TheVariants as next
-use Rattle.txn_runner.specs.Running.{OnlyReads}
+use Rattle.store_laws.specs.Reads.{OnlyReads}
 use Rattle.store_trait.specs.declared.store.Store.{Ghosts}
 
 -- each key whose document comes after the name stands after all these documents

@@ -17,8 +17,3 @@ pub record HasRun (trail : ℕ → Content) (mark end : ℕ) (base : Docs) (orde
 -- Calls on a store with which any run goes on, to the later order.
 abbrev pub RunGoesOn : {S : Type 0} → Ghosts S → S → S → List Entry → List Entry → Type 0
 RunGoesOn store old new before after = (mark : ℕ) (base : Docs) → HasRun (store.trail old) mark (store.calls old) base before → HasRun (store.trail new) mark (store.calls new) base after
-
--- Calls that only read: the content is the same after each of them.
-pub record OnlyReads {S : Type 0} (store : Ghosts S) (old new : S) : Type 0 where
-  pub same : store.content new ≡ store.content old
-  pub still : (n : ℕ) → store.calls old ≤ n → n ≤ store.calls new → store.trail new n ≡ store.content old

@@ -7,7 +7,7 @@ ghost use Rattle.store_laws.specs.Meaning.{bodies};
 ghost use Rattle.store_laws.specs.Plain.{IsPlain};
 ghost use Rattle.txn_runner.specs.Causes.{IsOfStore};
 ghost use Rattle.txn_runner.specs.Listing.{StandsPast, IsNext, next_as};
-ghost use Rattle.txn_runner.specs.Running.{OnlyReads};
+ghost use Rattle.store_laws.specs.Reads.{OnlyReads};
 
 use crate::error::StepError;
 use std::alloc::Global;

@@ -1,12 +1,14 @@
-use Rattle.std.proofs.Common.{Ok, Some, None, refl, sym, ◌∙◌, arith}
+use Rattle.std.proofs.Common.{ℕ, List, Option, Result, Ok, Err, Some, None, refl, sym, ap, ◌∙◌, subst, arith}
+use Rattle.txn_io.specs.declared.lines.LineFault.{LineFault}
 use Rattle.txn_io.specs.Unread.{unread}
-use Rattle.txn_runner.proofs.CallsMade.{calls_then}
+use Rattle.store_laws.proofs.trails.CallsMade.{calls_none, calls_then, rose_before}
 use Rattle.txn_play.specs.Sessions.{at}
 use Rattle.txn_cli.specs.Call.{held, start, taken}
 use Rattle.txn_cli.specs.Faults.{refusal_in_stop}
 use Rattle.txn_cli.specs.Output.{writing}
+use Rattle.txn_cli.proofs.Caused.{MayRefuseBy, caused_stop, caused_unread, end_by, line_by}
 use Rattle.txn_cli.proofs.Beginning.{begins_come, begins_refused, begins_stands, begins_stopped, look_fault}
-use Rattle.txn_cli.proofs.Coming.{comes_further, next_is}
+use Rattle.txn_cli.proofs.Coming.{comes_further, next_is, next_to, reads_on}
 use Rattle.txn_cli.proofs.Spending.{suffices_at}
 use Rattle.txn_cli.proofs.Stopping.{plays_out, stops_end, stops_line, stops_refused, unspent_enough}
 use Rattle.txn_cli.proofs.command.run.Goals as goal
@@ -34,6 +36,7 @@ loop-done-init g c = rw c.new-lines.ensures (record {
   output_later = omega arith;
   input_later = omega arith;
   made = c.is_empty.ensures.kept.calls;
+  read = λ src. record { there = tt; rest = refl; taken = refl };
   stands = λ told. begins_stands g.S.Store c.args.session.now (record { store = c.is_empty.new.store; runs = c.args.session.now.runs; batch = c.args.session.now.batch; begun = c.args.session.now.begun; documents_alone = c.in-Ok.answer })
       c.requires.begins (λ alone. sym (c.in-Ok.ensures.answer told) ∙ alone) (c.in-Ok.ensures.same told) refl refl refl;
   come = λ src told. begins_come g.S.Store c.args.session.now (record { store = c.is_empty.new.store; runs = c.args.session.now.runs; batch = c.args.session.now.batch; begun = c.args.session.now.begun; documents_alone = c.in-Ok.answer })
@@ -55,6 +58,7 @@ loop-done-preserved g c =
       output_later = omega (arith, it.output_later, played.kept.output.later);
       input_later = omega (arith, it.input_later, c.in-Ok-Some.ensures.kept.later);
       made = calls_then _ _ _ _ it.made played.kept.session.calls;
+      read = λ src. reads_on _ _ _ _ _ (it.read src) (rw c.in-Ok-Some.field-0-is at (c.in-Ok-Some.ensures.done src));
       stands = played.kept.session.stands;
       come = λ src told.
           comes_further g.S.Store (g.I.Source.rest c.args.input.now) (start g.S.Store c.args.session.now.store) c.loop-done.done (unread g.I.Source c.loop-done.lines c.loop-done.input) g.O.Sink.tells (g.O.Sink.written c.args.output.now)
@@ -76,6 +80,16 @@ returns-in-Err-play_line-clause-stopped g c = λ src told.
     (unspent_enough g.S.Store c.loop-done.session c.play_line.new.session (refusal_in_stop c.in-Err-play_line.stop) told
     (suffices_at _ _ (g.S.Store.content c.args.session.now.store) (g.S.Store.calls c.args.session.now.store) _ _ _ come.at.plays (omega (arith, it.counted, it.within))) played.kept.caused)
     (rw c.as_slice.ensures.value at (played.stopped told))
+
+pub returns-in-Err-play_line-clause-caused : goal.returns-in-Err-play_line-clause-caused
+returns-in-Err-play_line-clause-caused g c =
+    let it = c.loop-done.invariant in
+    let played = c.in-Err-play_line.ensures in
+    caused_stop g.S.Store g.I.Source _ c.args.input.now c.loop-done.done c.args.session.now.store c.play_line.new.session _ _ (λ src. (it.read src).there) c.loop-done.session _ it.made it.output_later c.in-Err-play_line.stop _ c.at_line-in-Err-play_line.ensures
+    (λ src. subst (λ (r : Result (Option (List ℕ)) LineFault). MayRefuseBy r c.in-Err-play_line.stop)
+    (sym (next_to (g.I.Source.rest c.args.input.now) c.loop-done.done (unread g.I.Source c.loop-done.lines c.loop-done.input) _ (it.read src) (rw c.in-Ok-Some.field-0-is at (c.in-Ok-Some.ensures.done src)).line))
+    (line_by c.in-Ok-Some.line.items c.in-Err-play_line.stop (rw c.as_slice.ensures.value at played.may)))
+    played.kept.caused (λ e. played.kept.output.fault (ap Err e))
 
 -- ---- the end of the input
 
@@ -102,6 +116,16 @@ returns-in-Err-run_waiting-clause-stopped g c = λ src told.
     (suffices_at _ _ (g.S.Store.content c.args.session.now.store) (g.S.Store.calls c.args.session.now.store) _ _ _ come.at.plays (omega (arith, it.counted, it.within))) out.kept.caused)
     out.against (out.left told)
 
+pub returns-in-Err-run_waiting-clause-caused : goal.returns-in-Err-run_waiting-clause-caused
+returns-in-Err-run_waiting-clause-caused g c =
+    let it = c.loop-done.invariant in
+    let out = c.in-Err-run_waiting.ensures in
+    caused_stop g.S.Store g.I.Source _ c.args.input.now c.loop-done.done c.args.session.now.store c.run_waiting.new.session _ _ (λ src. (it.read src).there) c.loop-done.session _ it.made it.output_later c.in-Err-run_waiting.stop _ c.at_line-in-Err-run_waiting.ensures
+    (λ src. subst (λ (r : Result (Option (List ℕ)) LineFault). MayRefuseBy r c.in-Err-run_waiting.stop)
+    (sym (next_to (g.I.Source.rest c.args.input.now) c.loop-done.done (unread g.I.Source c.loop-done.lines c.loop-done.input) _ (it.read src) (rw c.in-Ok-None.field-0-is at (c.in-Ok-None.ensures.done src)).line))
+    (end_by (at g.S.Store c.loop-done.session) c.in-Err-run_waiting.stop out.against))
+    out.kept.caused (λ e. out.kept.output.fault (ap Err e))
+
 -- ---- a line isn't read
 
 pub returns-in-Err-next-clause-stopped : goal.returns-in-Err-next-clause-stopped
@@ -109,3 +133,23 @@ returns-in-Err-next-clause-stopped g c = λ src told.
     let it = c.loop-done.invariant in
     stops_refused g.S.Store g.I.Source (g.I.Source.rest c.args.input.now) (start g.S.Store c.args.session.now.store) c.loop-done.done (unread g.I.Source c.loop-done.lines c.loop-done.input) c.loop-done.session (writing g.O.Sink c.args.output.now c.loop-done.output)
     c.loop-done.input c.next.new.source (it.come src told) src c.in-Err-next.fault c.line_fault.result c.line_fault.ensures (c.in-Err-next.ensures.refused it.unrefused)
+
+pub returns-in-Err-next-clause-caused : goal.returns-in-Err-next-clause-caused
+returns-in-Err-next-clause-caused g c =
+    let it = c.loop-done.invariant in
+    caused_unread _ _ _ _ _ _ c.loop-done.session _ _ (λ src. (it.read src).there) (unread g.I.Source c.loop-done.lines c.loop-done.input) c.loop-done.input c.next.new.source it.read c.in-Err-next.fault _ c.line_fault.ensures
+    (c.in-Err-next.ensures.refused it.unrefused) (λ rose. rose_before it.input_later rose)
+
+-- ---- the store's calls go on
+
+pub returns-then-not-is_run-clause-kept : goal.returns-then-not-is_run-clause-kept
+returns-then-not-is_run-clause-kept g c = calls_none _ _ (λ told. g.met.S.Store.present _ told)
+
+pub returns-in-Err-play_line-clause-kept : goal.returns-in-Err-play_line-clause-kept
+returns-in-Err-play_line-clause-kept g c = calls_then _ _ _ _ c.loop-done.invariant.made c.in-Err-play_line.ensures.kept.session.calls
+
+pub returns-in-Ok-run_waiting-clause-kept : goal.returns-in-Ok-run_waiting-clause-kept
+returns-in-Ok-run_waiting-clause-kept g c = calls_then _ _ _ _ c.loop-done.invariant.made c.in-Ok-run_waiting.ensures.kept.session.calls
+
+pub returns-in-Err-run_waiting-clause-kept : goal.returns-in-Err-run_waiting-clause-kept
+returns-in-Err-run_waiting-clause-kept g c = calls_then _ _ _ _ c.loop-done.invariant.made c.in-Err-run_waiting.ensures.kept.session.calls

@@ -1,7 +1,7 @@
 use Rattle.std.proofs.Common.{Ok, refl, ap, sym, ◌∙◌, arith}
 use Rattle.std.proofs.lemmas.Result.{err_from_is_err_and}
 use Rattle.txn_cli.specs.Output.{writing}
-use Rattle.txn_cli.proofs.LineSteps.{done_line, enough_first, kept_then, misread_line, skipped_line, stops_first, stops_then}
+use Rattle.txn_cli.proofs.LineSteps.{done_line, enough_first, kept_misread, kept_still, kept_then, may_misread, may_stop, may_stop_first, misread_line, skipped_line, stops_first, stops_then}
 use Rattle.txn_cli.proofs.line.play_line.Goals as goal
 
 pub returns-in-Ok-None-clause-done : goal.returns-in-Ok-None-clause-done
@@ -28,3 +28,9 @@ returns-in_ok-run_first-in-Ok-Some-clause-kept g c =
     let first = c.in_ok-run_first-in-Ok-Some.ensures in
     kept_then g.S.Store c.args.session.now c.run_first.new.session c.play_statement.new.session _ _ _ c.play_statement.result first.kept.session.calls first.kept.output.later
     (λ told. enough_first g.S.Store _ c.args.session.now c.run_first.new.session (first.done told).answer (first.done told).did) c.play_statement.ensures.kept
+
+pub returns-in-Ok-None-clause-kept : goal.returns-in-Ok-None-clause-kept
+returns-in-Ok-None-clause-kept g c = kept_still _ _ _ _ c.requires.stands (λ told. g.met.S.Store.present _ told)
+
+pub returns-in-Err-clause-kept : goal.returns-in-Err-clause-kept
+returns-in-Err-clause-kept g c = rw c.misread.ensures (kept_misread _ _ _ c.in-Err.why c.requires.stands (λ told. g.met.S.Store.present _ told))

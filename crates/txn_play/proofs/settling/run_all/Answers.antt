@@ -1,3 +1,4 @@
+use Rattle.store_laws.proofs.trails.CallsMade.{calls_then}
 use Rattle.txn_play.proofs.Causing.{causes_before}
 use Rattle.txn_play.proofs.Batches.{batch_then}
 use Rattle.txn_play.proofs.OwnOperations.{records_after, records_before}
@@ -18,10 +19,13 @@ pub returns-in-Err-clause-uses : goal.returns-in-Err-clause-uses
 returns-in-Err-clause-uses g c = λ told. uses_within (c.submit_all.ensures.uses told) (omega arith) (omega arith)
 
 pub returns-in-Ok-clause-cause : goal.returns-in-Ok-clause-cause
-returns-in-Ok-clause-cause g c = causes_before _ _ _ _ _ c.submit_all.ensures.calls.counted c.settle_all.ensures.cause
+returns-in-Ok-clause-cause g c = causes_before _ _ _ _ _ c.submit_all.ensures.calls.chain c.settle_all.ensures.cause
 
 pub returns-in-Ok-clause-records : goal.returns-in-Ok-clause-records
 returns-in-Ok-clause-records g c = λ told. records_after _ _ _ _ _ (c.settle_all.ensures.works told).step (c.in-Ok.ensures.begun told).submitted
 
 pub returns-in-Err-clause-records : goal.returns-in-Err-clause-records
 returns-in-Err-clause-records g c = λ told. records_before _ _ _ (c.submit_all.ensures.own told)
+
+pub returns-in-Ok-clause-calls : goal.returns-in-Ok-clause-calls
+returns-in-Ok-clause-calls g c = calls_then _ _ _ _ c.submit_all.ensures.calls c.settle_all.ensures.calls

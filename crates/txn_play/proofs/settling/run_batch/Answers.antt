@@ -1,3 +1,4 @@
+use Rattle.store_laws.proofs.trails.CallsMade.{calls_none, calls_then}
 use Rattle.txn_play.proofs.Causing.{causes_before}
 use Rattle.std.proofs.Common.{[], refl, sym, ap, ◌∙◌}
 use Rattle.store_laws.specs.Meaning.{meaning}
@@ -38,4 +39,10 @@ returns-clause-enough g c = λ told suffices.
     run_unspent c.run_all-states.result _ _ _ _ suffices (c.in-Ok.ensures.reads told).same (c.run_all-states.ensures.uses told) (c.run_all-states.ensures.reason told)
 
 pub returns-clause-cause : goal.returns-clause-cause
-returns-clause-cause g c = causes_before _ _ _ _ _ c.in-Ok.ensures.calls.counted c.run_all-states.ensures.cause
+returns-clause-cause g c = causes_before _ _ _ _ _ c.in-Ok.ensures.calls.chain c.run_all-states.ensures.cause
+
+pub returns-clause-calls : goal.returns-clause-calls
+returns-clause-calls g c = calls_then _ _ _ _ c.in-Ok.ensures.calls c.run_all-states.ensures.calls
+
+pub returns-in_err-reserve-clause-calls : goal.returns-in_err-reserve-clause-calls
+returns-in_err-reserve-clause-calls g c = calls_none _ _ (λ told. g.met.S.Store.present _ told)

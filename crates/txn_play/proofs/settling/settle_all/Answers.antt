@@ -3,14 +3,14 @@ use Rattle.std.proofs.Common.{subst, List, rules}
 use Rattle.txn_play.specs.Batches.{IsSettling}
 use Rattle.txn_runner.specs.declared.waiting.Waiting.{Waiting}
 use Rattle.txn_play.proofs.Batches.{at_item, none_left, settling_begins, settling_next, settling_ends, begins_worth, batch_works, uses_up_to_here}
-use Rattle.txn_runner.proofs.CallsMade.{calls_then}
+use Rattle.store_laws.proofs.trails.CallsMade.{calls_none, calls_then}
 use Rattle.std.proofs.lemmas.Bool.{and_parts}
 use Rattle.txn_play.proofs.settling.settle_all.Goals as goal
 
 pub loop-txn-init : goal.loop-txn-init
 loop-txn-init g c = record {
   told = λ told. rw c.new-states.ensures (settling_begins g.S.Store _ _ _ (c.requires.begun told));
-  made = search rules;
+  made = calls_none _ _ (λ told. g.met.S.Store.present _ told);
   built = c.requires.built;
 }
 
@@ -53,4 +53,10 @@ pub returns-clause-uses : goal.returns-clause-uses
 returns-clause-uses g c = λ told. (subst (λ (l : List Waiting). IsSettling g.S.Store c.args.store.now c.loop-txn.store c.args.order.now.items c.loop-txn.order.items c.args.batch.now l c.loop-txn.states) (none_left _ _ c.loop-txn-test.false) (c.loop-txn.invariant.told told)).uses
 
 pub returns-in-Err-clause-cause : goal.returns-in-Err-clause-cause
-returns-in-Err-clause-cause g c = caused_before _ _ _ _ _ c.loop-txn.invariant.made.counted (rw c.refusal_of.ensures.exact (caused_step _ _ _ _ _ c.in-Err.ensures.cause))
+returns-in-Err-clause-cause g c = caused_before _ _ _ _ _ c.loop-txn.invariant.made.chain (rw c.refusal_of.ensures.exact (caused_step _ _ _ _ _ c.in-Err.ensures.cause))
+
+pub returns-in_err-push-in-Ok-clause-calls : goal.returns-in_err-push-in-Ok-clause-calls
+returns-in_err-push-in-Ok-clause-calls g c = calls_then _ _ _ _ c.loop-txn.invariant.made c.settle.ensures.calls
+
+pub returns-in-Err-clause-calls : goal.returns-in-Err-clause-calls
+returns-in-Err-clause-calls g c = calls_then _ _ _ _ c.loop-txn.invariant.made c.settle.ensures.calls

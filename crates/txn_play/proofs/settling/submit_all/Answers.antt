@@ -2,14 +2,14 @@ use Rattle.std.proofs.Common.{subst, List, rules}
 use Rattle.txn_play.specs.Batches.{IsSubmitting}
 use Rattle.txn_runner.specs.declared.waiting.Waiting.{Waiting}
 use Rattle.txn_play.proofs.Batches.{at_item, none_left, submitting_begins, submitting_next, submitting_refused, submitting_ends, batch_works}
-use Rattle.txn_runner.proofs.CallsMade.{call_after}
+use Rattle.store_laws.proofs.trails.CallsMade.{call_after, calls_none}
 use Rattle.txn_runner.proofs.Numbers.{uses_then}
 use Rattle.txn_play.proofs.settling.submit_all.Goals as goal
 
 pub loop-txn-init : goal.loop-txn-init
 loop-txn-init g c = record {
   told = λ told. submitting_begins g.S.Store _ _ (c.requires.may_run told);
-  made = search rules;
+  made = calls_none _ _ (λ told. g.met.S.Store.present _ told);
 }
 
 pub submit-requires-clause-calm : goal.submit-requires-clause-calm
@@ -54,3 +54,9 @@ returns-in-Err-clause-own g c = λ told.
 pub returns-clause-own : goal.returns-clause-own
 returns-clause-own g c = λ told.
     (subst (λ (l : List Waiting). IsSubmitting g.S.Store c.args.store.now c.loop-txn.store c.args.batch.now l) (none_left _ _ c.loop-txn-test.false) (c.loop-txn.invariant.told told)).own _ (λ id rec there. there) tt
+
+pub returns-in-Ok-false-clause-calls : goal.returns-in-Ok-false-clause-calls
+returns-in-Ok-false-clause-calls g c = call_after _ _ _ _ _ _ c.loop-txn.invariant.made c.submit.ensures.call
+
+pub returns-in-Err-clause-calls : goal.returns-in-Err-clause-calls
+returns-in-Err-clause-calls g c = call_after _ _ _ _ _ _ c.loop-txn.invariant.made c.submit.ensures.call

@@ -3,9 +3,9 @@ use Rattle.txn_key.specs.Documents.{IsPast}
 use Rattle.txn_runner.specs.Listing.{IsNext}
 use Rattle.store_trait.specs.Contents.{Content}
 use Rattle.txn_runner.specs.declared.documents.Next.TheVariants as next
-use Rattle.txn_runner.proofs.CallsMade.{call_after}
+use Rattle.store_laws.proofs.trails.CallsMade.{call_after, calls_none}
 use Rattle.txn_runner.proofs.Listed.{is_lt-Less, listed_none, listed_more, listed_record, rises_record, listed_all}
-use Rattle.txn_runner.proofs.OnlyReading.{reads_none, reads_call}
+use Rattle.store_laws.proofs.trails.OnlyReading.{reads_none, reads_call}
 use Rattle.txn_runner.proofs.documents.list_documents.Goals as goal
 use Rattle.txn_runner.proofs.documents.list_documents.Goals.{in-Document+in_ok-copy-in-Document+in_ok-push-in-Document, in-Record}
 
@@ -14,7 +14,7 @@ loop-init g c = record {
   rising = λ key past. subst (IsPast key) (sym c.new-docs.ensures) (c.documents_rise.ensures.empty key);
   listed = λ told. listed_none (g.S.Store.content c.args.store.now) (record { 0 = replicate 12 255 }) c.new-docs.result c.new-docs.ensures;
   reads = λ told. reads_none g.S.Store _ (g.met.S.Store.present _ told);
-  go_on = search rules;
+  go_on = calls_none _ _ (λ told. g.met.S.Store.present _ told);
 }
 
 pub returns-in-End-clause-listed : goal.returns-in-End-clause-listed
@@ -48,3 +48,15 @@ loop-preserved g c = elim c.match-branch-2.branch [
 
 pub returns-in-End-clause-reads : goal.returns-in-End-clause-reads
 returns-in-End-clause-reads g c told = reads_call _ _ _ _ _ _ told (g.met.S.Store.present _ told) (c.loop.invariant.reads told) c.next_listed.ensures.call (c.next_listed.ensures.same told)
+
+pub returns-in_err-doc-clause-calls : goal.returns-in_err-doc-clause-calls
+returns-in_err-doc-clause-calls g c = call_after _ _ _ _ _ _ c.loop.invariant.go_on c.next_listed.ensures.call
+
+pub returns-in_err-copy-in-Document-clause-calls : goal.returns-in_err-copy-in-Document-clause-calls
+returns-in_err-copy-in-Document-clause-calls g c = call_after _ _ _ _ _ _ c.loop.invariant.go_on c.next_listed.ensures.call
+
+pub returns-in_err-push-in-Document-clause-calls : goal.returns-in_err-push-in-Document-clause-calls
+returns-in_err-push-in-Document-clause-calls g c = call_after _ _ _ _ _ _ c.loop.invariant.go_on c.next_listed.ensures.call
+
+pub returns-in-End-clause-calls : goal.returns-in-End-clause-calls
+returns-in-End-clause-calls g c = call_after _ _ _ _ _ _ c.loop.invariant.go_on c.next_listed.ensures.call

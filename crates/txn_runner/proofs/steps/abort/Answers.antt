@@ -1,3 +1,4 @@
+use Rattle.txn_runner.proofs.Answered.{missed_cause}
 use Rattle.std.proofs.Common.{refl}
 use Rattle.txn_record.specs.declared.entry.Outcome.TheVariants as outcome
 use Rattle.txn_runner.proofs.Answered.{end_shown}
@@ -39,3 +40,6 @@ returns-in_err-must_hit-clause-stays g c = λ told. let p = err_from_is_err_and 
 
 pub returns-clause-shown : goal.returns-clause-shown
 returns-clause-shown g c = end_shown _ _ _ _ outcome.Aborted state.Aborting state.Aborted None None refl c.in_ok-must_hit.ensures.hit
+
+pub returns-in_err-must_hit-clause-cause : goal.returns-in_err-must_hit-clause-cause
+returns-in_err-must_hit-clause-cause g c = let p = err_from_is_err_and c.from_residual.result c.from_residual.ensures.1 in rw (p.1, p.2) (missed_cause _ _ _ _ _ _ _ (λ found. (refl, refl)) c.in_err-must_hit.ensures.cause)

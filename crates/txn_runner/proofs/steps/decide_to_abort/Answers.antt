@@ -1,3 +1,5 @@
+use Rattle.txn_runner.proofs.Answered.{missed_cause}
+use Rattle.std.proofs.Common.{refl}
 use Rattle.std.proofs.Common.{refl, None, false, arith}
 use Rattle.std.proofs.lemmas.Result.{err_from_is_err_and}
 use Rattle.txn_record.specs.declared.state.State.TheVariants as state
@@ -35,3 +37,6 @@ returns-in_err-record_decision-clause-uses g c = λ told.
 
 pub returns-in_err-record_decision-clause-stays : goal.returns-in_err-record_decision-clause-stays
 returns-in_err-record_decision-clause-stays g c = λ told. let p = err_from_is_err_and c.from_residual.result c.from_residual.ensures.1 in rw p.1 (same_record _ _ _ (c.in_err-record_decision.ensures.left told (apply_hits _ _ c.args.nonce c.args.revno false (c.requires.worth told) state.Aborting None)))
+
+pub returns-in_err-record_decision-clause-cause : goal.returns-in_err-record_decision-clause-cause
+returns-in_err-record_decision-clause-cause g c = let p = err_from_is_err_and c.from_residual.result c.from_residual.ensures.1 in rw (p.1, p.2) (missed_cause _ _ _ _ _ _ _ (λ found. (refl, refl)) c.in_err-record_decision.ensures.cause)

@@ -1,3 +1,5 @@
+use Rattle.txn_runner.proofs.Answered.{missed_cause}
+use Rattle.std.proofs.Common.{refl}
 use Rattle.txn_runner.proofs.Answered.{on_the_way}
 use Rattle.std.proofs.Common.{Some, None, true, [], ◌∷◌, refl, arith}
 use Rattle.std.proofs.lemmas.Int.{to_z-of_z}
@@ -55,3 +57,6 @@ returns-in_err-record_decision-clause-stays g c = λ told. let fits = c.ranges.r
 
 pub returns-clause-shown : goal.returns-clause-shown
 returns-clause-shown g c = on_the_way _ _ _ _ _ c.after_decision.ensures.goes_on
+
+pub returns-in_err-record_decision-clause-cause : goal.returns-in_err-record_decision-clause-cause
+returns-in_err-record_decision-clause-cause g c = let p = err_from_is_err_and c.from_residual.result c.from_residual.ensures.1 in rw (p.1, p.2) (missed_cause _ _ _ _ _ _ _ (λ found. (refl, refl)) c.in_err-record_decision.ensures.cause)

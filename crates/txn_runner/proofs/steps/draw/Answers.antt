@@ -1,3 +1,4 @@
+use Rattle.txn_runner.proofs.Answered.{drawn_cause}
 use Rattle.std.proofs.Common.{◌≡◌, sym, subst}
 use Rattle.std.proofs.lemmas.Result.{err_from_is_err_and}
 use Rattle.std.specs.FinMap.{get}
@@ -53,3 +54,8 @@ returns-clause-uses g c = λ told. uses_within (uses_made (c.in_ok-drawn.ensures
 
 pub returns-in_err-nonce-clause-stays : goal.returns-in_err-nonce-clause-stays
 returns-in_err-nonce-clause-stays g c = λ told. let p = err_from_is_err_and c.from_residual-in_err-nonce.result c.from_residual-in_err-nonce.ensures.1 in rw p.1 (drawn_record _ _ _ (c.in_ok-drawn.ensures.made told).made)
+
+pub returns-in_err-nonce-clause-cause : goal.returns-in_err-nonce-clause-cause
+returns-in_err-nonce-clause-cause g c =
+    let p = err_from_is_err_and c.from_residual-in_err-nonce.result c.from_residual-in_err-nonce.ensures.1 in
+    rw (p.1, p.2) (drawn_cause _ _ _ _ c.in_ok-drawn.drawn.hit c.in_ok-drawn.drawn.cell _ c.in_ok-drawn.ensures.call.counted c.in_ok-drawn.ensures.answered (sym (rw c.counter_in.ensures at c.in_err-nonce.ensures)))

@@ -1,3 +1,6 @@
+use Rattle.txn_runner.proofs.Works.{refused_idly}
+use Rattle.txn_runner.proofs.Answered.{shows_now}
+use Rattle.std.proofs.Common.{sym}
 use Rattle.std.proofs.lemmas.Result.{err_from_is_err_and}
 use Rattle.txn_runner.proofs.Works.{works_idly, comes_err, comes_edited, comes_to_nothing}
 use Rattle.std.proofs.Common.{rules, SFits, w64}
@@ -41,3 +44,12 @@ returns-then-has_room-clause-uses g c = λ told. uses_within (uses_same _ _ (c.i
 
 pub returns-in_err-doc-clause-uses : goal.returns-in_err-doc-clause-uses
 returns-in_err-doc-clause-uses g c = λ told. let p = err_from_is_err_and c.from_residual-in_err-doc.result c.from_residual-in_err-doc.ensures.1 in rw p.1 (uses_within (uses_same _ _ (c.in_err-doc.ensures.same told)) (omega arith) (omega arith))
+
+pub returns-in_err-key-clause-call : goal.returns-in_err-key-clause-call
+returns-in_err-key-clause-call g c = let p = err_from_is_err_and c.from_residual.result c.from_residual.ensures.1 in rw (p.1, p.2) (refused_idly _ _ (g.met.S.Store.present _))
+
+pub returns-else-has_room-clause-cause : goal.returns-else-has_room-clause-cause
+returns-else-has_room-clause-cause g c =
+    let fits : SFits w64 c.in_ok-doc.doc.revno = search rules in
+    shows_now _ _ _ _ _ c.in_ok-doc.ensures.call.counted c.in_ok-doc.ensures.answered
+    (sym c.in_ok-key.ensures, look_high c.in_ok-doc.doc.revno _ (simp to_z-of_z at c.has_room.ensures) c.if-has_room.false)

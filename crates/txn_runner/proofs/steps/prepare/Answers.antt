@@ -1,3 +1,5 @@
+use Rattle.txn_runner.proofs.Answered.{missed_cause}
+use Rattle.std.proofs.Common.{refl}
 use Rattle.std.proofs.lemmas.Result.{err_from_is_err_and}
 use Rattle.std.proofs.Common.{Some, None}
 use Rattle.txn_record.specs.declared.state.State.TheVariants as state
@@ -33,3 +35,6 @@ returns-in_err-must_hit-clause-uses g c = λ told. let p = err_from_is_err_and c
 
 pub returns-in_err-must_hit-clause-stays : goal.returns-in_err-must_hit-clause-stays
 returns-in_err-must_hit-clause-stays g c = λ told. let p = err_from_is_err_and c.from_residual.result c.from_residual.ensures.1 in rw p.1 (same_record _ _ _ (c.in_err-must_hit.ensures.left told (prepare_hits _ _ _ (c.requires.worth told))))
+
+pub returns-in_err-must_hit-clause-cause : goal.returns-in_err-must_hit-clause-cause
+returns-in_err-must_hit-clause-cause g c = let p = err_from_is_err_and c.from_residual.result c.from_residual.ensures.1 in rw (p.1, p.2) (missed_cause _ _ _ _ _ _ _ (λ found. (refl, refl)) c.in_err-must_hit.ensures.cause)

@@ -1,3 +1,6 @@
+use Rattle.txn_runner.proofs.Works.{refused_idly}
+use Rattle.txn_runner.proofs.Answered.{missed_cause}
+use Rattle.std.proofs.Common.{refl}
 use Rattle.std.proofs.lemmas.Result.{err_from_is_err_and}
 use Rattle.store_laws.specs.Readiness.{token}
 use Rattle.txn_runner.proofs.Beside.{add_others}
@@ -31,3 +34,9 @@ returns-in_err-must_hit-clause-uses g c = λ told. let p = err_from_is_err_and c
 
 pub returns-in_err-must_hit-clause-stays : goal.returns-in_err-must_hit-clause-stays
 returns-in_err-must_hit-clause-stays g c = λ told. let p = err_from_is_err_and c.from_residual-in_err-must_hit.result c.from_residual-in_err-must_hit.ensures.1 in rw p.1 (same_record _ _ _ (c.in_err-must_hit.ensures.left told (rw c.in_ok-copy.ensures (queue_hits _ _ _ c.only.ensures.only _ (c.requires.worth told)))))
+
+pub returns-in_err-copy-clause-call : goal.returns-in_err-copy-clause-call
+returns-in_err-copy-clause-call g c = let p = err_from_is_err_and c.from_residual.result c.from_residual.ensures.1 in rw (p.1, p.2) (refused_idly _ _ (g.met.S.Store.present _))
+
+pub returns-in_err-must_hit-clause-cause : goal.returns-in_err-must_hit-clause-cause
+returns-in_err-must_hit-clause-cause g c = let p = err_from_is_err_and c.from_residual-in_err-must_hit.result c.from_residual-in_err-must_hit.ensures.1 in rw (p.1, p.2) (missed_cause _ _ _ _ _ _ _ (λ found. (refl, refl)) c.in_err-must_hit.ensures.cause)

@@ -1,3 +1,6 @@
+use Rattle.txn_runner.proofs.Works.{refused_idly}
+use Rattle.std.proofs.lemmas.Result.{err_from_is_err_and}
+use Rattle.txn_runner.proofs.Answered.{repeated}
 use Rattle.std.proofs.Common.{sym, subst}
 use Rattle.store_trait.specs.declared.edit.Edit.TheVariants as edit
 use Rattle.txn_runner.proofs.Beside.{record_others}
@@ -37,3 +40,9 @@ returns-clause-uses g c = λ told.
     (λ made. uses_made made (uses_record _ _ (edit.InsertRecord (preparing_record c.args.txn.now))))
     (λ same. uses_same _ _ same)
     (made_or_left c.may_hit-hits.result _ _ _ (rw c.in_ok-rec.ensures at (c.may_hit-hits.ensures.made told)) (c.may_hit-hits.ensures.left told))
+
+pub returns-in_err-rec-clause-call : goal.returns-in_err-rec-clause-call
+returns-in_err-rec-clause-call g c = let p = err_from_is_err_and c.from_residual.result c.from_residual.ensures.1 in rw (p.1, p.2) (refused_idly _ _ (g.met.S.Store.present _))
+
+pub returns-clause-repeated : goal.returns-clause-repeated
+returns-clause-repeated g c = repeated _ _ _ _ _ _ c.may_hit-hits.ensures.answered

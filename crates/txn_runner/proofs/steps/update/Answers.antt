@@ -1,3 +1,4 @@
+use Rattle.txn_runner.proofs.Works.{refused_idly}
 use Rattle.std.proofs.lemmas.Result.{err_from_is_err_and}
 use Rattle.store_laws.specs.Readiness.{token}
 use Rattle.txn_runner.proofs.Beside.{update_others}
@@ -29,3 +30,9 @@ returns-clause-uses g c = λ told. let fits = c.ranges.revno in uses_within (use
 
 pub returns-in_err-hits-clause-uses : goal.returns-in_err-hits-clause-uses
 returns-in_err-hits-clause-uses g c = λ told. let p = err_from_is_err_and c.from_residual-in_err-hits.result c.from_residual-in_err-hits.ensures.1 in rw p.1 (uses_within (uses_same _ _ (c.in_err-hits.ensures.left told)) (omega arith) (omega arith))
+
+pub returns-in_err-copy-clause-call : goal.returns-in_err-copy-clause-call
+returns-in_err-copy-clause-call g c = let p = err_from_is_err_and c.from_residual.result c.from_residual.ensures.1 in rw (p.1, p.2) (refused_idly _ _ (g.met.S.Store.present _))
+
+pub returns-in_err-update-clause-call : goal.returns-in_err-update-clause-call
+returns-in_err-update-clause-call g c = let p = err_from_is_err_and c.from_residual-in_err-update.result c.from_residual-in_err-update.ensures.1 in rw (p.1, p.2) (refused_idly _ _ (g.met.S.Store.present _))

@@ -1,10 +1,10 @@
-use Rattle.std.proofs.Common.{true, false, Some, None, refl, sym, ap, ◌∙◌}
+use Rattle.std.proofs.Common.{true, false, Some, None, refl, rules, sym, ap, ◌∙◌}
 use Rattle.std.proofs.lemmas.Result.{err_from_is_err_and}
 use Rattle.txn_script.specs.declared.statement.Statement.TheVariants as statement
 use Rattle.txn_play.specs.Sessions.{at}
 use Rattle.txn_play.proofs.Attending.{against_submitted, failed_against, failed_refused, memory_refused, none_first, nothing_against, objected_refused}
 use Rattle.std.proofs.lemmas.Bool.{and_parts}
-use Rattle.txn_play.proofs.Sessions.{adding_stands, reading_runs, refused_reading}
+use Rattle.txn_play.proofs.Sessions.{adding_stands, reading_runs, refused_idly, refused_reading}
 use Rattle.txn_play.proofs.session.Session.add_to_batch.Goals as goal
 
 pub returns-in_err-why : goal.returns-in_err-why
@@ -13,7 +13,7 @@ returns-in_err-why g c =
     rw (p.1, p.2) (record {
       done = λ told. tt;
       against = λ told. failed_against _ _ c.in_err-why.ensures.kept.other;
-      refused = failed_refused _ false _ _ _ c.in_err-why.ensures.kept (λ told. (c.against_record.ensures.reads told).same) refl;
+      refused = failed_refused _ false _ _ _ c.in_err-why.ensures.kept (λ told. (c.against_record.ensures.reads told).same) refl (record { batch = refl; begun = refl; alone = refl });
       kept = refused_reading _ _ _ _ c.requires.stands c.against_record.ensures.reads c.against_record.ensures.kept.calls refl;
     })
 
@@ -24,7 +24,7 @@ returns-in-Some g c = record {
       let p = at g.S.Store c.args.self.now in
       none_first p (statement.Submit c.args.id c.args.ops c.args.info) refl
       ∙ against_submitted p c.args.id c.args.ops (Some c.in-Some.why) (sym c.is_full.ensures ∙ c.if-is_full.false) (sym c.has.ensures ∙ c.if-has.false) (rw c.in-Some.is at (c.in_ok-why.ensures.answer told));
-  refused = objected_refused _ false _ _ c.in-Some.why (λ told. (c.against_record.ensures.reads told).same) refl;
+  refused = objected_refused _ false _ _ c.in-Some.why (λ told. (c.against_record.ensures.reads told).same) refl (record { batch = refl; begun = refl; alone = refl });
   kept = refused_reading _ _ _ _ c.requires.stands c.against_record.ensures.reads c.against_record.ensures.kept.calls refl;
 }
 
@@ -34,7 +34,7 @@ returns-in_err-push g c =
     rw (p.1, p.2) (record {
       done = λ told. tt;
       against = λ told. tt;
-      refused = memory_refused _ false _ _ (λ told. (c.against_record.ensures.reads told).same) refl;
+      refused = memory_refused _ false _ _ (λ told. (c.against_record.ensures.reads told).same) refl (record { batch = c.in_err-push.ensures.err; begun = refl; alone = refl });
       kept = refused_reading _ _ _ _ c.requires.stands c.against_record.ensures.reads c.against_record.ensures.kept.calls refl;
     })
 
@@ -45,6 +45,7 @@ returns g c =
     let waits = sym c.has.ensures ∙ c.if-has.false in
     record {
       done = λ told. record {
+        cleared = λ lets. absurd (cc lets);
         allowed = none_first p (statement.Submit c.args.id c.args.ops c.args.info) refl ∙ against_submitted p c.args.id c.args.ops None full waits (rw c.in_default.is at (c.in_ok-why.ensures.answer told));
         performs = (λ i. record { content = (c.against_record.ensures.reads told).same i; calls = g.S.Store.calls c.against_record.new.store; waiting = c.in_ok-push.ensures.ok i; begun = true; documents_alone = c.args.self.now.documents_alone; runs = c.args.self.now.runs.items }, refl);
       };
@@ -58,3 +59,19 @@ returns g c =
         calls = c.against_record.ensures.kept.calls;
       };
     }
+
+pub returns-then-is_full : goal.returns-then-is_full
+returns-then-is_full g c = record {
+  done = λ told. tt;
+  against = search rules;
+  refused = search rules;
+  kept = refused_idly _ _ _ _ c.requires.stands (λ told. g.met.S.Store.present _ told) refl refl;
+}
+
+pub returns-then-has : goal.returns-then-has
+returns-then-has g c = record {
+  done = λ told. tt;
+  against = search rules;
+  refused = search rules;
+  kept = refused_idly _ _ _ _ c.requires.stands (λ told. g.met.S.Store.present _ told) refl refl;
+}

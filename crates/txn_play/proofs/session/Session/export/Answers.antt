@@ -10,9 +10,9 @@ use Rattle.txn_play.proofs.session.Session.export.Goals as goal
 pub returns : goal.returns
 returns g c = record {
   done = λ told. record {
+    cleared = λ lets. c.requires.cleared;
     allowed = nothing_first (at g.S.Store c.args.self.now) statement.Export c.requires.cleared;
     performs = record {
-      none_waits = c.requires.cleared;
       stays = λ i. record { content = (c.list_cells.ensures.reads told).same i; calls = g.S.Store.calls c.list_cells.new.store; waiting = c.args.self.now.batch; begun = true; documents_alone = c.args.self.now.documents_alone; runs = c.args.self.now.runs.items };
       answers = ap Cells (c.in_ok-cells.ensures.listed told);
     };
@@ -28,6 +28,6 @@ returns-in_err-cells g c =
     rw (p.1, p.2) (record {
       done = λ told. tt;
       against = λ told. failed_against _ _ c.in_err-cells.ensures.kept.other;
-      refused = failed_refused _ false _ _ _ c.in_err-cells.ensures.kept (λ told. (c.list_cells.ensures.reads told).same) refl;
+      refused = failed_refused _ false _ _ _ c.in_err-cells.ensures.kept (λ told. (c.list_cells.ensures.reads told).same) refl (record { batch = refl; begun = refl; alone = refl });
       kept = refused_reading _ _ _ _ c.requires.stands c.list_cells.ensures.reads c.list_cells.ensures.kept.calls refl;
     })

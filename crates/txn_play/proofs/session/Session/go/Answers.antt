@@ -1,3 +1,4 @@
+use Rattle.txn_play.proofs.Sessions.{refused_idly}
 use Rattle.std.proofs.Common.{refl}
 use Rattle.txn_play.proofs.session.Session.go.Goals as goal
 
@@ -10,3 +11,6 @@ returns-clause-done g c = λ told. record {
   begun = refl;
   alone = refl;
 }
+
+pub returns-then-not-self-clause-kept : goal.returns-then-not-self-clause-kept
+returns-then-not-self-clause-kept g c = refused_idly _ _ _ _ c.requires.stands (λ told. g.met.S.Store.present _ told) refl refl

@@ -1,8 +1,20 @@
 -- Calls on a store, one after another.
-use Rattle.std.proofs.Common.{ℕ, ◌≤◌, Result, Ok, Err, ⊎_elim, inl, inr, ◌∙◌, arith}
+use Rattle.std.proofs.Common.{◌≡◌, ℕ, ◌≤◌, IsTrue, refl, Result, Ok, Err, ⊎_elim, inl, inr, ◌∙◌, arith}
 use Rattle.store_trait.specs.Calls.{Rose}
+use Rattle.store_trait.specs.Exchanges.{Exchanged}
 use Rattle.store_trait.specs.Stores.{CallsGoOn, OneCall}
 use Rattle.store_trait.specs.declared.store.Store.{Ghosts}
+use Rattle.store_laws.proofs.trails.Exchanges.{joined}
+
+-- no call yet
+pub calls_none : {S : Type 0} (store : Ghosts S) (s : S)
+    → (IsTrue store.tells → store.trail s (store.calls s) ≡ store.content s) → CallsGoOn store s s
+calls_none store s present = record {
+  trail = λ told. record { before = λ n le. refl; here = present told };
+  counted = omega arith;
+  chain = Exchanged.Nothing s;
+  later = omega arith;
+}
 
 -- calls on a store, and then more
 pub calls_then : {S : Type 0} (store : Ghosts S) (a b c : S)
@@ -14,6 +26,7 @@ calls_then store a b c first second = record {
     here = (second.trail told).here;
   };
   counted = omega (arith, first.counted, second.counted);
+  chain = joined store a b c first.chain second.chain;
   later = omega (arith, first.later, second.later);
 }
 
@@ -27,6 +40,7 @@ call_after {S} {T} {E} store a b c result failed first one = record {
     here = (one.trail told).here;
   };
   counted = by result one;
+  chain = joined store a b c first.chain one.chain;
   later = omega (arith, first.later, one.later);
 }
   where

@@ -2,7 +2,7 @@
 use Rattle.std.proofs.Common.{◌≡◌, ℕ, ◌+◌, ◌≤◌, IsTrue, Result, Ok, Err, ◌⊎◌, ⊎_elim, inl, inr, refl, sym, ap, ◌∙◌, arith}
 use Rattle.store_trait.specs.Calls.{GoesOn}
 use Rattle.store_trait.specs.Stores.{OneCall}
-use Rattle.txn_runner.specs.Running.{OnlyReads}
+use Rattle.store_laws.specs.Reads.{OnlyReads}
 use Rattle.store_trait.specs.declared.store.Store.{Ghosts}
 
 low_or_high : (m n : ℕ) → n ≤ m + 1 → (n ≤ m) ⊎ (n ≡ m + 1)

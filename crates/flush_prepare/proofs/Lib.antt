@@ -1,0 +1,12 @@
+pub mod CallsMade
+pub mod KeysShown
+pub mod OwnKeys
+pub mod Preparing
+pub mod PrepareCauses
+pub mod PrepareEdits
+pub mod PrepareReads
+pub mod PrepareSteps
+pub mod QueueLists
+pub mod Records
+pub mod Scanning
+pub mod ScansRead

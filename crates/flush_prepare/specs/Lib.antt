@@ -1,0 +1,12 @@
+pub mod Answers
+pub mod Causes
+pub mod Draws
+pub mod Keys
+pub mod Moments
+pub mod Preparations
+pub mod PrepareFacts
+pub mod Progress
+pub mod Queues
+pub mod Refusals
+pub mod Scans
+pub mod Sights

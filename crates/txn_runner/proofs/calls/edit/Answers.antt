@@ -1,0 +1,25 @@
+use Rattle.std.proofs.Common.{rules}
+use Rattle.store_trait.proofs.OneCalls.{chain_of_one}
+use Rattle.txn_runner.proofs.calls.edit.Goals as goal
+
+pub returns-clause-call : goal.returns-clause-call
+returns-clause-call g c = record {
+  trail = search rules;
+  counted = search rules;
+  counted_err = search rules;
+  chain = chain_of_one _ _ _ _ _ c.edit.ensures.answered c.edit.ensures.counted;
+  later = search rules;
+  fault = search rules;
+  still = search rules;
+}
+
+pub returns-in_err-edit-clause-call : goal.returns-in_err-edit-clause-call
+returns-in_err-edit-clause-call g c = record {
+  trail = search rules;
+  counted = search rules;
+  counted_err = search rules;
+  chain = chain_of_one _ _ _ _ _ c.edit.ensures.answered c.edit.ensures.counted;
+  later = search rules;
+  fault = search rules;
+  still = search rules;
+}
