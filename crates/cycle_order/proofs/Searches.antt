@@ -1,5 +1,5 @@
 -- Searches against the edges: one step, several, and what a whole search has found.
-use Rattle.std.proofs.Common.{◌≡◌, ℕ, zero, suc, ◌<◌, Bool, true, false, List, [], ◌∷◌, ◌++◌, length, get_or, set, replicate, refl, sym, ap, subst, ◌∙◌, inl, inr, ◌⊎◌, ◌↔◌, arith, Contains}
+use Rattle.std.proofs.Common.{◌≡◌, ℕ, zero, suc, ◌<◌, Bool, true, false, List, [], ◌∷◌, ◌++◌, length, get_or, set, replicate, refl, sym, ap, subst, ◌∙◌, inl, inr, ◌⊎◌, ◌↔◌, arith, Contains, ◌+◌, ◌≤◌, below_more}
 use Rattle.std.proofs.lemmas.List.{get_or-set_same, get_or-set_other, length-set, length_push, length-replicate, get_or_past, nil_from_length}
 use Rattle.std.proofs.lemmas.List.Elements.{Contains-append_left, Contains-push, Contains-push_cases}
 use Rattle.std.proofs.lemmas.Bool.{cases_eq, cases_lt, false≢true}
@@ -7,7 +7,7 @@ use Rattle.txn_record.specs.Walks.{Leads}
 use Rattle.txn_record.proofs.WalkLaws.{one_edge, join, leads_in}
 use Rattle.cycle_order.specs.declared.graph.Edge.{Edge}
 use Rattle.cycle_order.specs.Graphs.{HasEdge}
-use Rattle.cycle_order.specs.Search.{Marked, unmarked, Finds}
+use Rattle.cycle_order.specs.Search.{Marked, unmarked, Finds, IsBegun, LeadsTo}
 
 module _ (P : ℕ → Type 0) where
   pub finds_none : (found : List Bool) (frontier : List ℕ) → Finds P found frontier found frontier
@@ -74,11 +74,11 @@ finds_more P Q more found frontier found' frontier' f = record {
   work = f.work;
 }
 
--- the state of a search for what leads to v
-pub record IsSearch (edges : List Edge) (v count : ℕ) (found : List Bool) (frontier : List ℕ) : Type 0 where
+-- the state of a search for what leads to a vertex of P
+pub record IsSearch (edges : List Edge) (P : ℕ → Type 0) (count : ℕ) (found : List Bool) (frontier : List ℕ) : Type 0 where
   pub size : length found ≡ count
-  pub here : Marked found v
-  pub sound : (a : ℕ) → Marked found a → Leads (HasEdge edges) a v
+  pub here : (v : ℕ) → P v → Marked found v
+  pub sound : (a : ℕ) → Marked found a → LeadsTo edges P a
   pub shut : (u t : ℕ) → HasEdge edges u t → Marked found t → Marked found u ⊎ Contains frontier t
   pub among : (a : ℕ) → Contains frontier a → Marked found a
 
@@ -93,35 +93,90 @@ none_marked (suc count) (suc a) m = none_marked count a m
 marked_within : (found : List Bool) (a : ℕ) → Marked found a → a < length found
 marked_within found a m = elim (cases_lt a (length found)) [ inl within ↦ within | inr past ↦ absurd (false≢true (sym (get_or_past found a false past) ∙ m)) ]
 
-module _ (edges : List Edge) (v count : ℕ) where
-  begins : (found : List Bool) (frontier : List ℕ) → Finds (λ a. a ≡ v) (replicate count false) [] found frontier → Marked found v
-      → IsSearch edges v count found frontier
-  begins found frontier f here = record {
-    size = f.size ∙ length-replicate count false;
-    here = here;
-    sound = λ a m. elim (f.only a m) [ inl n ↦ absurd (none_marked count a n) | inr e ↦ rw e (Leads.Here v) ];
-    shut = λ u t e m. elim (f.fresh t m) [ inl n ↦ absurd (none_marked count t n) | inr c ↦ inr c ];
-    among = λ a c. elim (f.among a c) [ inl d ↦ absurd (none_contained a d) | inr m ↦ m ];
+-- what is found of none waits in the frontier
+pub begun : (P : ℕ → Type 0) (count : ℕ) (none : List Bool) (empty : List ℕ) (found : List Bool) (frontier : List ℕ) → none ≡ replicate count false → empty ≡ []
+    → Finds P none empty found frontier → IsBegun found frontier
+begun P count none empty found frontier e g f = record {
+  waits = λ a m. elim (f.fresh a m) [ inl n ↦ absurd (none_marked count a (rw e at n)) | inr c ↦ c ];
+  among = λ a c. elim (f.among a c) [ inl d ↦ absurd (none_contained a (rw g at d)) | inr m ↦ m ];
+}
+
+-- and it is of P
+pub only_begun : (P : ℕ → Type 0) (count : ℕ) (none : List Bool) (empty : List ℕ) (found : List Bool) (frontier : List ℕ) → none ≡ replicate count false
+    → Finds P none empty found frontier → (a : ℕ) → Marked found a → P a
+only_begun P count none empty found frontier e f a m = elim (f.only a m) [ inl n ↦ absurd (none_marked count a (rw e at n)) | inr p ↦ p ]
+
+-- the marked ones of the first n vertices are found, and none else
+pub record IsBeginning (marked : List Bool) (n : ℕ) (found : List Bool) (frontier : List ℕ) : Type 0 where
+  pub size : length found ≡ length marked
+  pub all : (a : ℕ) → a < n → Marked marked a → Marked found a
+  pub only : (a : ℕ) → Marked found a → Marked marked a
+  pub begun : IsBegun found frontier
+
+pub beginning : (marked none : List Bool) (empty : List ℕ) → none ≡ replicate (length marked) false → empty ≡ [] → IsBeginning marked 0 none empty
+beginning marked none empty e g = record {
+  size = ap length e ∙ length-replicate (length marked) false;
+  all = λ a below m. absurd (omega arith);
+  only = λ a m. absurd (none_marked (length marked) a (rw e at m));
+  begun = record { waits = λ a m. absurd (none_marked (length marked) a (rw e at m)); among = λ a c. absurd (none_contained a (rw g at c)) };
+}
+
+-- the next vertex is found, if it is marked
+pub beginning_here : (marked : List Bool) (n : ℕ) (found : List Bool) (frontier : List ℕ) (found' : List Bool) (frontier' : List ℕ) → Marked marked n
+    → Finds (λ a. a ≡ n) found frontier found' frontier' → Marked found' n → IsBeginning marked n found frontier → IsBeginning marked (n + 1) found' frontier'
+beginning_here marked n found frontier found' frontier' here f m b = record {
+  size = f.size ∙ b.size;
+  all = below_more _ _ (λ a below k. f.keeps a (b.all a below k)) (λ k. m);
+  only = λ a k. elim (f.only a k) [ inl old ↦ b.only a old | inr e ↦ rw e here ];
+  begun = record {
+    waits = λ a k. elim (f.fresh a k) [ inl old ↦ f.waits a (b.begun.waits a old) | inr c ↦ c ];
+    among = λ a c. elim (f.among a c) [ inl d ↦ f.keeps a (b.begun.among a d) | inr k ↦ k ];
+  };
+}
+
+pub beginning_on : (marked : List Bool) (n : ℕ) (found : List Bool) (frontier : List ℕ) → (Marked marked n → ⊥) → IsBeginning marked n found frontier → IsBeginning marked (n + 1) found frontier
+beginning_on marked n found frontier not_here b =
+    record { size = b.size; all = below_more _ _ b.all (λ k. absurd (not_here k)); only = b.only; begun = b.begun }
+
+pub all_begun : (marked : List Bool) (n : ℕ) (found : List Bool) (frontier : List ℕ) → IsBeginning marked n found frontier → length marked ≤ n → (a : ℕ) → Marked marked a → Marked found a
+all_begun marked n found frontier b all a m = b.all a (let w = marked_within marked a m in omega arith) m
+
+-- one vertex alone is found, and what leads to it
+pub leads_to_one : (edges : List Edge) (marked : List Bool) (v : ℕ) → Marked marked v → ((a : ℕ) → Marked marked a → a ≡ v) → (flags : List Bool)
+    → ((a : ℕ) → Marked flags a ↔ LeadsTo edges (Marked marked) a) → (a : ℕ) → Marked flags a ↔ Leads (HasEdge edges) a v
+leads_to_one edges marked v here only flags exact a =
+    (λ m. let w = (exact a).0 m in subst (Leads (HasEdge edges) a) (only w.0 w.1) w.2, λ walk. (exact a).1 (v, here, walk))
+
+-- the same of any of a set
+pub leads_to_same : (edges : List Edge) (P : ℕ → Type 0) (marked : List Bool) → ((a : ℕ) → P a → Marked marked a) → ((a : ℕ) → Marked marked a → P a) → (flags : List Bool)
+    → ((a : ℕ) → Marked flags a ↔ LeadsTo edges (Marked marked) a) → (a : ℕ) → Marked flags a ↔ LeadsTo edges P a
+leads_to_same edges P marked all only flags exact a =
+    (λ m. let w = (exact a).0 m in (w.0, only w.0 w.1, w.2), λ w. (exact a).1 (w.0, all w.0 w.1, w.2))
+
+module _ (edges : List Edge) (P : ℕ → Type 0) (count : ℕ) where
+  -- what was found so far is all of P
+  pub search_begins : (found : List Bool) (frontier : List ℕ) → length found ≡ count → ((a : ℕ) → P a → Marked found a) → ((a : ℕ) → Marked found a → P a)
+      → IsBegun found frontier → IsSearch edges P count found frontier
+  search_begins found frontier size all only b = record {
+    size = size;
+    here = all;
+    sound = λ a m. (a, only a m, Leads.Here a);
+    shut = λ u t e m. inr (b.waits t m);
+    among = b.among;
   }
 
-  -- v alone is found
-  pub search_begins : (none : List Bool) (empty : List ℕ) (found : List Bool) (frontier : List ℕ) → none ≡ replicate count false → empty ≡ []
-      → Finds (λ a. a ≡ v) none empty found frontier → Marked found v → IsSearch edges v count found frontier
-  search_begins none empty found frontier e g f here =
-      begins found frontier (subst (λ (bs : List Bool). Finds (λ a. a ≡ v) bs [] found frontier) e (subst (λ (ns : List ℕ). Finds (λ a. a ≡ v) none ns found frontier) g f)) here
-
   -- what is taken from the frontier is a vertex
-  pub search_within : (found : List Bool) (frontier rest : List ℕ) (t : ℕ) → frontier ≡ rest ++ t ∷ [] → IsSearch edges v count found frontier → t < length found
+  pub search_within : (found : List Bool) (frontier rest : List ℕ) (t : ℕ) → frontier ≡ rest ++ t ∷ [] → IsSearch edges P count found frontier → t < length found
   search_within found frontier rest t is s = marked_within found t (s.among t (rw is (Contains-push rest t)))
 
   -- a vertex is taken from the frontier, and all with an edge to it are found
   pub search_more : (found : List Bool) (frontier rest : List ℕ) (t : ℕ) (found' : List Bool) (frontier' : List ℕ) → frontier ≡ rest ++ t ∷ []
-      → IsSearch edges v count found frontier → Finds (λ a. HasEdge edges a t) found rest found' frontier' → ((u : ℕ) → HasEdge edges u t → Marked found' u)
-      → IsSearch edges v count found' frontier'
+      → IsSearch edges P count found frontier → Finds (λ a. HasEdge edges a t) found rest found' frontier' → ((u : ℕ) → HasEdge edges u t → Marked found' u)
+      → IsSearch edges P count found' frontier'
   search_more found frontier rest t found' frontier' is s f all = record {
     size = f.size ∙ s.size;
-    here = f.keeps v s.here;
-    sound = λ a m. elim (f.only a m) [ inl n ↦ s.sound a n | inr e ↦ join a t v (one_edge a t e) (s.sound t taken) ];
+    here = λ v p. f.keeps v (s.here v p);
+    sound = λ a m. elim (f.only a m) [ inl n ↦ s.sound a n | inr e ↦ let on = s.sound t taken in (on.0, on.1, join a t on.0 (one_edge a t e) on.2) ];
     shut = shut;
     among = λ a c. elim (f.among a c) [ inl d ↦ f.keeps a (s.among a (back a d)) | inr m ↦ m ];
   }
@@ -145,9 +200,9 @@ module _ (edges : List Edge) (v count : ℕ) where
       ]
 
   -- with an empty frontier all was found
-  pub search_ends : (found : List Bool) (frontier : List ℕ) → length frontier ≡ 0 → IsSearch edges v count found frontier
-      → (a : ℕ) → Marked found a ↔ Leads (HasEdge edges) a v
-  search_ends found frontier none s a = (s.sound a, λ w. leads_in (Marked found) shut a v w s.here)
+  pub search_ends : (found : List Bool) (frontier : List ℕ) → length frontier ≡ 0 → IsSearch edges P count found frontier
+      → (a : ℕ) → Marked found a ↔ LeadsTo edges P a
+  search_ends found frontier none s a = (s.sound a, λ w. leads_in (Marked found) shut a w.0 w.2 (s.here w.0 w.1))
     where
       shut : (u t : ℕ) → HasEdge edges u t → Marked found t → Marked found u
       shut u t e m = elim (s.shut u t e m) [ inl n ↦ n | inr c ↦ absurd (none_contained t (rw (nil_from_length frontier none) at c)) ]

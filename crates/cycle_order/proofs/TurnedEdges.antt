@@ -5,8 +5,8 @@ use Rattle.std.proofs.lemmas.List.Elements.{All-map}
 use Rattle.txn_record.specs.Walks.{Leads}
 use Rattle.cycle_order.proofs.MoreWalks.{leads_turned}
 use Rattle.cycle_order.specs.Choice.{turned, AreLinks, AllGiveWay}
-use Rattle.cycle_order.specs.Graphs.{edge_of, HasEdge, Ancestor, IsReady}
-use Rattle.cycle_order.specs.Search.{Marked}
+use Rattle.cycle_order.specs.Graphs.{edge_of, HasEdge, Ancestor, IsDescendant, IsReady}
+use Rattle.cycle_order.specs.Search.{Marked, LeadsTo}
 use Rattle.cycle_order.specs.declared.graph.Edge.{Edge}
 use Rattle.cycle_order.specs.declared.graph.Graph.{Graph}
 use Rattle.cycle_order.specs.declared.links.Links.{Links}
@@ -54,3 +54,13 @@ ready_by_searches graph v before after answer ahead behind tells = (
   }),
   λ r. tells.1 (λ a m differ u. ((behind a).1 (r.back a ((ahead a).0 m) differ u), r.least a ((ahead a).0 m) differ u)),
 )
+
+-- a search along the edges turned round finds the descendants
+pub descendants_found : (graph : Graph) (edges : List Edge) → edges ≡ map turned graph.edges → (marked flags : List Bool) → ((v : ℕ) → Marked flags v ↔ LeadsTo edges (Marked marked) v)
+    → (v : ℕ) → Marked flags v ↔ IsDescendant graph marked v
+descendants_found graph edges e marked flags exact v =
+    let found : Marked flags v ↔ LeadsTo (map turned graph.edges) (Marked marked) v
+    = subst (λ (es : List Edge). Marked flags v ↔ LeadsTo es (Marked marked) v) e (exact v) in (
+      λ m. let w = found.0 m in (w.0, w.1, (turned_walks graph.edges v w.0).0 w.2),
+      λ d. found.1 (d.0, d.1, (turned_walks graph.edges v d.0).1 d.2),
+    )

@@ -25,6 +25,11 @@ HasEdge edges u t = Contains edges (edge_of u t)
 abbrev pub Ancestor : Graph → ℕ → ℕ → Type 0
 Ancestor graph a v = Leads (HasEdge graph.edges) a v
 
+-- a marked vertex is v or an ancestor of it
+abbrev pub IsDescendant : Graph → List Bool → ℕ → Type 0
+IsDescendant graph marked v =
+    (a : ℕ) × (slice_index_or marked a false ≡ true) × Ancestor graph a v
+
 -- a vertex's flag; what is no vertex has nothing left to settle
 abbrev pub settled_at : Graph → ℕ → Bool
 settled_at graph v = slice_index_or graph.settled v true

@@ -2,7 +2,8 @@
 use Rattle.std.specs.Prelude.{◌≡◌, ℕ, zero, suc, ◌+◌, ◌<◌, ◌==◌, Bool, true, false, Option, Some, None, List, [], ◌∷◌, length, slice_index_or, if◌then◌else◌, ◌⊎◌, All, Contains}
 use Rattle.cycle_order.specs.declared.graph.Edge.{Edge}
 use Rattle.cycle_order.specs.declared.incoming.Incoming.{Incoming}
-use Rattle.cycle_order.specs.Graphs.{edge_of}
+use Rattle.txn_record.specs.Walks.{Leads}
+use Rattle.cycle_order.specs.Graphs.{edge_of, HasEdge}
 
 -- v is marked
 abbrev pub Marked : List Bool → ℕ → Type 0
@@ -52,3 +53,12 @@ pub record Finds (P : ℕ → Type 0) (found : List Bool) (frontier : List ℕ)
   pub waits : (a : ℕ) → Contains frontier a → Contains frontier' a
   pub among : (a : ℕ) → Contains frontier' a → Contains frontier a ⊎ Marked found' a
   pub work : unmarked found' + length frontier' ≡ unmarked found + length frontier
+
+-- a search has only begun: all that it found waits in the frontier
+pub record IsBegun (found : List Bool) (frontier : List ℕ) : Type 0 where
+  pub waits : (a : ℕ) → Marked found a → Contains frontier a
+  pub among : (a : ℕ) → Contains frontier a → Marked found a
+
+-- a walk of edges leads from a vertex to one of P
+abbrev pub LeadsTo : List Edge → (ℕ → Type 0) → ℕ → Type 0
+LeadsTo edges P a = (v : ℕ) × P v × Leads (HasEdge edges) a v

@@ -1,9 +1,10 @@
 ghost use Rattle.std.specs.Prelude.{◌≡◌, ℕ, ◌<◌, ◌↔◌, false, length, IfOk, IsTrue, slice_index_or};
-ghost use Rattle.cycle_order.specs.Graphs.{IsGraph, Ancestor};
+ghost use Rattle.cycle_order.specs.Graphs.{IsGraph, Ancestor, IsDescendant};
 
 use crate::graph::Graph;
 use crate::incoming::Incoming;
-use crate::search::find_ancestors;
+use crate::links::Links;
+use crate::search::{find_all_ancestors, find_ancestors};
 use doc_value::OutOfMemory;
 use std::alloc::Global;
 
@@ -19,4 +20,16 @@ pub fn ancestors(alloc: Global, graph: &Graph, v: u64) -> Result<Vec<bool>, OutO
     let edges = Vec::from_slice(alloc, graph.edges.as_slice())?;
     let into = Incoming::new(alloc, edges, count)?;
     find_ancestors(alloc, &into, count, v as usize)
+}
+
+/// A flag for each vertex: whether it or an ancestor of it is among those marked.
+pub fn descendants(alloc: Global, graph: &Graph, marked: &[bool]) -> Result<Vec<bool>, OutOfMemory>
+    requires graph { IsGraph graph.now }
+    requires marked { length marked.now ≡ length graph.now.ids }
+    ensures flags { IfOk result (λ flags. length flags.items ≡ length graph.now.ids) }
+    ensures exact { IfOk result (λ flags. (v : ℕ) →
+        IsTrue (slice_index_or flags.items v false) ↔ IsDescendant graph.now marked.now v) }
+{
+    let links = Links::new(alloc, graph)?;
+    find_all_ancestors(alloc, &links.out_of, marked)
 }

@@ -6,7 +6,7 @@ ghost use Rattle.cycle_order.specs.Search.{Marked};
 use crate::graph::Graph;
 use crate::least::least_ahead;
 use crate::links::Links;
-use crate::ready::{is_below, is_ready};
+use crate::ready::{is_below, is_ready_by};
 use crate::search::{find_ancestors, mark_all};
 use doc_value::OutOfMemory;
 use std::alloc::Global;
@@ -110,5 +110,5 @@ fn comes_first(
             return Ok(false);
         }
     }
-    is_ready(alloc, graph, links, v)
+    is_ready_by(alloc, graph, links, v)
 }

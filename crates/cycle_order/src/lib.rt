@@ -17,7 +17,7 @@ mod links;
 mod ready;
 mod search;
 
-pub use ancestry::ancestors;
+pub use ancestry::{ancestors, descendants};
 pub use choice::pick;
 pub use cleanness::clean;
 pub use graph::{Edge, Graph};
@@ -25,3 +25,4 @@ pub use laws::{
     cycles_have_one_ready_vertex, graphs_grow, late_edges_keep_the_ready, readiness_by_ids,
     settling_keeps_the_ready, unsettled_graphs_have_a_ready_vertex, walks_go_on,
 };
+pub use ready::is_ready;

@@ -10,7 +10,19 @@ use std::alloc::Global;
 use std::cmp::Ordering;
 
 /// Whether each other unsettled ancestor of `v` has it as an ancestor, and a greater id.
-pub(crate) fn is_ready(
+///
+/// It costs two searches of the graph.
+pub fn is_ready(alloc: Global, graph: &Graph, v: u64) -> Result<bool, OutOfMemory>
+    requires graph { IsGraph graph.now }
+    requires vertex { v < length graph.now.ids }
+    ensures { IfOk result (λ ready. IsTrue ready ↔ IsReady graph.now v) }
+{
+    let links = Links::new(alloc, graph)?;
+    is_ready_by(alloc, graph, &links, v as usize)
+}
+
+/// The same over links that were made before.
+pub(crate) fn is_ready_by(
     alloc: Global,
     graph: &Graph,
     links: &Links,

@@ -1,7 +1,7 @@
 ghost use Rattle.std.specs.Prelude.{◌≡◌, ℕ, ◌<◌, ◌⊎◌, ◌↔◌, false, length, IfOk, OnOk, IsTrue, slice_index_or};
 ghost use Rattle.txn_record.specs.Walks.{Leads};
 ghost use Rattle.cycle_order.specs.Graphs.{HasEdge};
-ghost use Rattle.cycle_order.specs.Search.{Marked, Finds, IsIncoming};
+ghost use Rattle.cycle_order.specs.Search.{Marked, Finds, IsIncoming, IsBegun, LeadsTo};
 
 use crate::incoming::Incoming;
 use doc_value::OutOfMemory;
@@ -68,6 +68,40 @@ pub(crate) fn find_ancestors(
         frontier: Vec::new(alloc),
     };
     search.mark(v)?;
+    follow(search, into)
+}
+
+/// A flag for each vertex: whether a walk of edges leads from it to a marked one.
+pub(crate) fn find_all_ancestors(
+    alloc: Global,
+    into: &Incoming,
+    marked: &[bool],
+) -> Result<Vec<bool>, OutOfMemory>
+    requires { IsIncoming into.now (length marked.now) }
+    ensures flags { IfOk result (λ found. length found.items ≡ length marked.now) }
+    ensures exact { IfOk result (λ found. (a : ℕ) →
+        Marked found.items a ↔ LeadsTo into.now.edges.items (Marked marked.now) a) }
+{
+    let mut search = Search {
+        found: vec![in alloc; false; marked.len()]?,
+        frontier: Vec::new(alloc),
+    };
+    for v in 0..marked.len() {
+        if marked[v] {
+            search.mark(v)?;
+        }
+    }
+    follow(search, into)
+}
+
+/// Ends a search that has only begun: what leads to what it found.
+fn follow(mut search: Search, into: &Incoming) -> Result<Vec<bool>, OutOfMemory>
+    requires into { IsIncoming into.now (length search.found.items) }
+    requires begun { IsBegun search.found.items search.frontier.items }
+    ensures flags { IfOk result (λ found. length found.items ≡ length search.found.items) }
+    ensures exact { IfOk result (λ found. (a : ℕ) →
+        Marked found.items a ↔ LeadsTo into.now.edges.items (Marked search.found.items) a) }
+{
     while let Some(t) = search.frontier.pop() {
         search.mark_before(into, t)?;
     }

@@ -9,7 +9,9 @@
 mod log;
 mod memory;
 mod positions;
+mod silent;
 mod slot;
 mod store;
 
 pub use memory::MemoryStore;
+pub use silent::SilentStore;

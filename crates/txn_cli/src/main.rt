@@ -21,8 +21,6 @@ use store_memory::MemoryStore;
 use txn_io::{Sink, StdSink, StdSource};
 
 #[cfg(test)]
-mod silent;
-#[cfg(test)]
 mod tests;
 
 /// The status of want of memory, where it comes before the top call.

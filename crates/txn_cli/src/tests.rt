@@ -1,9 +1,8 @@
 //! The worked scripts, and the outside failing at each of its calls.
 use crate::command::command;
-use crate::silent::SilentStore;
 use std::alloc::Global;
 use std::test::Fail;
-use store_memory::MemoryStore;
+use store_memory::{MemoryStore, SilentStore};
 use store_trait::Store;
 use txn_io::{MemorySink, MemorySource};
 use txn_key::TxnId;

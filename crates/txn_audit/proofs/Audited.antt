@@ -1,0 +1,86 @@
+-- What an audit concludes.
+use Rattle.std.proofs.Common.{◌≡◌, ℕ, ◌<◌, ◌≤◌, true, List, [], ◌∷◌, length, map, ap, get_or, Some, inl, inr, refl, sym, ◌∙◌, subst, arith}
+use Rattle.std.proofs.lemmas.Bool.{cases_lt}
+use Rattle.std.specs.FinMap.{get, entries, entries_sorted, entries-from_sorted, from_sorted, same_entries_map}
+use Rattle.store_trait.specs.Contents.{Content, named}
+use Rattle.store_trait.specs.Names.{name_cmp, may_stand}
+use Rattle.store_trait.specs.declared.cell.Cell.{Cell}
+use Rattle.store_trait.specs.declared.cell.Named.{Named}
+use Rattle.store_trait.specs.declared.name.Name.{Name}
+use Rattle.store_laws.specs.Soundness.{Rule, Holds, Numbers, Tokens, Nonces, InQueues, AppliesReady, DecidedSealed, Marks, Entries, OnChain, Fits, rule_number}
+use Rattle.txn_key.specs.Documents.{Docs}
+use Rattle.txn_audit.specs.Audits.{Means, IsAudited, IsFlawOf, HasFault}
+use Rattle.txn_audit.specs.Bodies.{IsComplete, IsUnfit}
+use Rattle.txn_audit.specs.Checks.{HoldBelow}
+use Rattle.txn_audit.specs.Flaws.{IsFirstBroken}
+use Rattle.txn_audit.specs.Listing.{IsListing, content_of, entries_of}
+use Rattle.txn_audit.specs.declared.error.AuditError.{AuditError}
+use Rattle.txn_audit.specs.declared.error.AuditError.TheVariants as error
+use Rattle.txn_audit.proofs.CellRules.{holds_before, listed_there}
+
+-- a rule is below the last, or it is the last
+last_or_below : (rule : Rule) → 10 ≤ rule_number rule → rule ≡ Fits
+last_or_below Numbers h = absurd (omega arith)
+last_or_below Tokens h = absurd (omega arith)
+last_or_below Nonces h = absurd (omega arith)
+last_or_below InQueues h = absurd (omega arith)
+last_or_below AppliesReady h = absurd (omega arith)
+last_or_below DecidedSealed h = absurd (omega arith)
+last_or_below Marks h = absurd (omega arith)
+last_or_below Entries h = absurd (omega arith)
+last_or_below OnChain h = absurd (omega arith)
+last_or_below Fits h = refl
+
+pub means_them : (cells : List Named) (docs : Docs) → IsListing cells → HoldBelow (content_of cells) 10 → IsComplete cells docs → Means (content_of cells) docs
+means_them cells docs l lower whole = record { sound = record { kinds = kinds; rules = rules }; docs_are = whole.means }
+  where
+    kinds : (n : Name) (x : Cell) → get (content_of cells) n ≡ Some x → may_stand n x ≡ true
+    kinds n x there =
+        let w = listed_there cells l n x there in
+        let at : get_or cells w.0 (record { name = n; cell = x }) ≡ record { name = n; cell = x } = w.2 _ in
+        subst (λ (y : Named). may_stand y.name y.cell ≡ true) at (l.kinds w.0 _ w.1)
+
+    rules : (rule : Rule) (n : Name) → Holds rule (content_of cells) n
+    rules rule n = elim (cases_lt (rule_number rule) 10) [
+      | inl below ↦ lower rule below n
+      | inr last ↦ subst (λ r. Holds r (content_of cells) n) (sym (last_or_below rule last)) (whole.fits n)
+    ]
+
+pub unfit_broken : (cells : List Named) (place : ℕ) → IsListing cells → HoldBelow (content_of cells) 10 → IsUnfit cells place → (d : Named) → IsFirstBroken (content_of cells) 10 (get_or cells place d).name
+unfit_broken cells place l lower u d = record {
+  rule = Fits;
+  numbered = refl;
+  fails = u.fails d;
+  before = holds_before cells l Fits place d u.within (λ k below e. u.before k e (omega arith) below);
+  lower = lower;
+}
+
+-- the error that names a place names the flaw there
+pub names_flaw : (cells : List Named) (rule place : ℕ) (found : AuditError) → place < length cells → ((d : Named) → found ≡ error.Unsound rule (get_or cells place d).name)
+    → ((d : Named) → IsFirstBroken (content_of cells) rule (get_or cells place d).name) → IsFlawOf (content_of cells) found
+names_flaw cells rule place found within is broken =
+    subst (IsFlawOf (content_of cells)) (sym (is (first_of cells place within))) (broken (first_of cells place within))
+  where
+    first_of : (xs : List Named) (k : ℕ) → k < length xs → Named
+    first_of [] k inside = absurd (omega arith)
+    first_of (x ∷ xs) k inside = x
+
+-- what lists a content's cells is that content
+same_pairs : (es : List (Name × Cell)) → entries_of (map named es) ≡ es
+same_pairs [] = refl
+same_pairs (e ∷ es) = ap (λ (rest : List (Name × Cell)). e ∷ rest) (same_pairs es)
+
+pub content_listed : (c : Content) (cells : List Named) → cells ≡ map named (entries c) → content_of cells ≡ c
+content_listed c cells is =
+    let listed : entries_of cells ≡ entries c = ap entries_of is ∙ same_pairs (entries c) in
+    same_entries_map (content_of cells) c (ap (λ es. entries (from_sorted {R = name_cmp} es)) listed ∙ entries-from_sorted name_cmp (entries c) (entries_sorted c))
+
+pub audited : (c : Content) (cells : List Named) (docs : Docs) → cells ≡ map named (entries c) → Means (content_of cells) docs → IsAudited c (record { cells = cells; docs = docs })
+audited c cells docs is means = record { cells = is; means = subst (λ d. Means d docs) (content_listed c cells is) means }
+
+-- a flaw of what was listed is the store's
+pub fault_found : (c : Content) (cells : List Named) → cells ≡ map named (entries c) → (e : AuditError) → IsFlawOf (content_of cells) e → HasFault c e
+fault_found c cells is (error.Unsound rule at) f = subst (λ d. IsFirstBroken d rule at) (content_listed c cells is) f
+fault_found c cells is error.TooMany f = absurd f
+fault_found c cells is error.StoreFault f = absurd f
+fault_found c cells is error.OutOfMemory f = tt

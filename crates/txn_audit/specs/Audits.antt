@@ -1,0 +1,35 @@
+-- What an audit answers.
+use Rattle.std.specs.Prelude.{◌≡◌, ◌<◌, length, map}
+use Rattle.std.specs.FinMap.{entries}
+use Rattle.txn_key.specs.Documents.{Docs}
+use Rattle.store_trait.specs.Contents.{Content, named}
+use Rattle.store_laws.specs.Meaning.{meaning}
+use Rattle.store_laws.specs.Soundness.{IsSound}
+use Rattle.txn_audit.specs.Flaws.{IsFirstBroken}
+use Rattle.txn_audit.specs.declared.checked.Checked.{Checked}
+use Rattle.txn_audit.specs.declared.error.AuditError.{AuditError}
+use Rattle.txn_audit.specs.declared.error.AuditError.TheVariants as error
+
+-- a content is sound, and means these documents
+pub record Means (c : Content) (docs : Docs) : Type 0 where
+  pub sound : IsSound c
+  pub docs_are : docs ≡ meaning c
+
+-- the cells are all that a content holds, it is sound, and means these documents
+pub record IsAudited (c : Content) (checked : Checked) : Type 0 where
+  pub cells : checked.cells ≡ map named (entries c)
+  pub means : Means c checked.docs
+
+-- an error that finds a flaw finds the first one
+abbrev pub IsFlawOf : Content → AuditError → Type 0
+IsFlawOf c (error.Unsound rule at) = IsFirstBroken c rule at
+IsFlawOf c error.TooMany = ⊥
+IsFlawOf c error.StoreFault = ⊥
+IsFlawOf c error.OutOfMemory = Unit {0}
+
+-- the same, or more cells stand there than an audit reads, or the store failed
+abbrev pub HasFault : Content → AuditError → Type 0
+HasFault c (error.Unsound rule at) = IsFirstBroken c rule at
+HasFault c error.TooMany = 200000 < length (entries c)
+HasFault c error.StoreFault = Unit {0}
+HasFault c error.OutOfMemory = Unit {0}

@@ -1,0 +1,15 @@
+pub mod Listing
+pub mod Flaws
+pub mod Tokens
+pub mod Entries
+pub mod Chains
+pub mod Marks
+pub mod Errors
+pub mod Bodies
+pub mod Became
+pub mod Completion
+pub mod Orders
+pub mod Queues
+pub mod Standing
+pub mod Checks
+pub mod Audits
