@@ -1,6 +1,7 @@
 -- What an audit concludes.
 use Rattle.std.proofs.Common.{◌≡◌, ℕ, ◌<◌, ◌≤◌, true, List, [], ◌∷◌, length, map, ap, get_or, Some, inl, inr, refl, sym, ◌∙◌, subst, arith}
 use Rattle.std.proofs.lemmas.Bool.{cases_lt}
+use Rattle.std.proofs.lemmas.List.{length-map}
 use Rattle.std.specs.FinMap.{get, entries, entries_sorted, entries-from_sorted, from_sorted, same_entries_map}
 use Rattle.store_trait.specs.Contents.{Content, named}
 use Rattle.store_trait.specs.Names.{name_cmp, may_stand}
@@ -75,12 +76,17 @@ content_listed c cells is =
     let listed : entries_of cells ≡ entries c = ap entries_of is ∙ same_pairs (entries c) in
     same_entries_map (content_of cells) c (ap (λ es. entries (from_sorted {R = name_cmp} es)) listed ∙ entries-from_sorted name_cmp (entries c) (entries_sorted c))
 
-pub audited : (c : Content) (cells : List Named) (docs : Docs) → cells ≡ map named (entries c) → Means (content_of cells) docs → IsAudited c (record { cells = cells; docs = docs })
-audited c cells docs is means = record { cells = is; means = subst (λ d. Means d docs) (content_listed c cells is) means }
+few_listed : (c : Content) (cells : List Named) → cells ≡ map named (entries c) → length cells ≤ 200000 → length (entries c) ≤ 200000
+few_listed c cells is few = omega (arith, few, ap length is, length-map (entries c) named)
+
+pub audited : (c : Content) (cells : List Named) (docs : Docs) → cells ≡ map named (entries c) → length cells ≤ 200000 → Means (content_of cells) docs → IsAudited c (record { cells = cells; docs = docs })
+audited c cells docs is few means =
+    let here = subst (λ d. Means d docs) (content_listed c cells is) means in
+    record { passes = record { sound = here.sound; few = few_listed c cells is few }; cells = is; docs_are = here.docs_are }
 
 -- a flaw of what was listed is the store's
-pub fault_found : (c : Content) (cells : List Named) → cells ≡ map named (entries c) → (e : AuditError) → IsFlawOf (content_of cells) e → HasFault c e
-fault_found c cells is (error.Unsound rule at) f = subst (λ d. IsFirstBroken d rule at) (content_listed c cells is) f
-fault_found c cells is error.TooMany f = absurd f
-fault_found c cells is error.StoreFault f = absurd f
-fault_found c cells is error.OutOfMemory f = tt
+pub fault_found : (c : Content) (cells : List Named) → cells ≡ map named (entries c) → length cells ≤ 200000 → (e : AuditError) → IsFlawOf (content_of cells) e → HasFault c e
+fault_found c cells is few (error.Unsound rule at) f = (few_listed c cells is few, subst (λ d. IsFirstBroken d rule at) (content_listed c cells is) f)
+fault_found c cells is few error.TooMany f = absurd f
+fault_found c cells is few error.StoreFault f = absurd f
+fault_found c cells is few error.OutOfMemory f = tt

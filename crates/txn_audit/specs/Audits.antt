@@ -1,5 +1,5 @@
 -- What an audit answers.
-use Rattle.std.specs.Prelude.{◌≡◌, ◌<◌, length, map}
+use Rattle.std.specs.Prelude.{◌≡◌, ◌<◌, ◌≤◌, length, map}
 use Rattle.std.specs.FinMap.{entries}
 use Rattle.txn_key.specs.Documents.{Docs}
 use Rattle.store_trait.specs.Contents.{Content, named}
@@ -15,10 +15,16 @@ pub record Means (c : Content) (docs : Docs) : Type 0 where
   pub sound : IsSound c
   pub docs_are : docs ≡ meaning c
 
--- the cells are all that a content holds, it is sound, and means these documents
+-- a content passes an audit: it is sound, and has no more cells than an audit reads
+pub record PassesAudit (c : Content) : Type 0 where
+  pub sound : IsSound c
+  pub few : length (entries c) ≤ 200000
+
+-- it passes, and these are all its cells and the documents that it means
 pub record IsAudited (c : Content) (checked : Checked) : Type 0 where
+  pub passes : PassesAudit c
   pub cells : checked.cells ≡ map named (entries c)
-  pub means : Means c checked.docs
+  pub docs_are : checked.docs ≡ meaning c
 
 -- an error that finds a flaw finds the first one
 abbrev pub IsFlawOf : Content → AuditError → Type 0
@@ -27,9 +33,10 @@ IsFlawOf c error.TooMany = ⊥
 IsFlawOf c error.StoreFault = ⊥
 IsFlawOf c error.OutOfMemory = Unit {0}
 
--- the same, or more cells stand there than an audit reads, or the store failed
+-- what an audit that doesn't pass answers: the first flaw, where all cells were read; that there are more; or that
+-- the store failed
 abbrev pub HasFault : Content → AuditError → Type 0
-HasFault c (error.Unsound rule at) = IsFirstBroken c rule at
+HasFault c (error.Unsound rule at) = (length (entries c) ≤ 200000) × IsFirstBroken c rule at
 HasFault c error.TooMany = 200000 < length (entries c)
 HasFault c error.StoreFault = Unit {0}
 HasFault c error.OutOfMemory = Unit {0}

@@ -84,8 +84,10 @@ pub record NothingFailed {S : Type 0} (store : Ghosts S) (call : Circumstances S
   pub of_input : HasRisen call.input → ⊥
   pub of_output : HasRisen call.output → ⊥
 
--- a line was refused, or memory was wanting
+-- a line was refused, an audit found something against the store, or memory was wanting
 abbrev pub IsOfLine : Fault → Type 0
 IsOfLine (fault.Line number text) = Unit {0}
+IsOfLine (fault.Unsound rule at) = Unit {0}
+IsOfLine fault.TooManyCells = Unit {0}
 IsOfLine fault.OutOfMemory = Unit {0}
 IsOfLine _ = ⊥

@@ -5,6 +5,8 @@ use Rattle.txn_io.specs.declared.lines.LineFault.TheVariants as line_fault
 use Rattle.txn_script.specs.Faults.{fault_text as script_text}
 use Rattle.txn_script.specs.declared.fault.ScriptFault.{ScriptFault}
 use Rattle.txn_script.specs.declared.fault.ScriptFault.TheVariants as script_fault
+use Rattle.txn_play.specs.declared.finding.Finding.{Finding}
+use Rattle.txn_play.specs.declared.finding.Finding.TheVariants as finding
 use Rattle.txn_play.specs.declared.objection.Objection.{Objection}
 use Rattle.txn_play.specs.declared.objection.Objection.TheVariants as objection
 use Rattle.txn_play.specs.declared.refusal.Refusal.{Refusal}
@@ -17,6 +19,8 @@ use Rattle.txn_cli.specs.declared.stop.Stop.TheVariants as stop
 abbrev pub status_of : Fault → ℕ
 status_of fault.Words = 2
 status_of (fault.Line _ _) = 3
+status_of (fault.Unsound _ _) = 4
+status_of fault.TooManyCells = 4
 status_of fault.Store = 5
 status_of fault.Input = 6
 status_of fault.Output = 7
@@ -35,9 +39,15 @@ objection_text objection.TooManyWaiting = codes "too many waiting"
 objection_text objection.IdExists = codes "id exists"
 objection_text objection.NotBuilt = codes "not built yet"
 
+-- how what an audit finds ends the call
+abbrev pub fault_of_finding : Finding → Fault
+fault_of_finding (finding.Unsound rule at) = fault.Unsound rule at
+fault_of_finding finding.TooManyCells = fault.TooManyCells
+
 -- how what stopped a line ends the call, where that line has the number
 abbrev pub fault_of_refusal : ℕ → Refusal → Fault
 fault_of_refusal number (refusal.Objected why) = fault.Line number (objection_text why)
+fault_of_refusal number (refusal.Found found) = fault_of_finding found
 fault_of_refusal number refusal.Store = fault.Store
 fault_of_refusal number refusal.OutOfMemory = fault.OutOfMemory
 fault_of_refusal number (refusal.Spent error) = fault.Spent error
@@ -76,6 +86,8 @@ refusal_in_stop stop.Output = None
 abbrev pub refusal_in : Fault → Option Refusal
 refusal_in fault.Words = None
 refusal_in (fault.Line _ _) = None
+refusal_in (fault.Unsound rule at) = Some (refusal.Found (finding.Unsound rule at))
+refusal_in fault.TooManyCells = Some (refusal.Found finding.TooManyCells)
 refusal_in fault.Store = Some refusal.Store
 refusal_in fault.Input = None
 refusal_in fault.Output = None

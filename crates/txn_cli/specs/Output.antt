@@ -1,5 +1,5 @@
 -- What the program prints, and what was written of it.
-use Rattle.std.specs.Prelude.{◌≡◌, ◌⊎◌, ◌+◌, ℕ, Bool, true, false, IsTrue, List, [], ◌∷◌, ◌++◌, codes}
+use Rattle.std.specs.Prelude.{◌≡◌, ◌⊎◌, ◌+◌, ℕ, Bool, true, false, IsTrue, List, [], ◌∷◌, ◌++◌, Option, Some, None, codes}
 use Rattle.std.specs.Fmt.{decimal}
 use Rattle.std.specs.List.{flat_map}
 use Rattle.std.specs.FinMap.{entries}
@@ -10,10 +10,12 @@ use Rattle.txn_key.specs.Ids.{id_text, token_text}
 use Rattle.txn_record.specs.declared.entry.Entry.{Entry}
 use Rattle.txn_record.specs.declared.state.State.{State}
 use Rattle.txn_record.specs.declared.state.State.TheVariants as state
-use Rattle.txn_script.specs.Texts.{cell_line, document_line, entry_line, key_text}
+use Rattle.txn_script.specs.Texts.{cell_line, document_line, entry_line, key_text, name_text}
 use Rattle.txn_play.specs.declared.answer.Answer.{Answer}
-use Rattle.txn_play.specs.declared.answer.Answer.TheVariants.{Nothing, States, Documents, Cells, Order}
+use Rattle.txn_play.specs.declared.answer.Answer.TheVariants.{Nothing, States, Documents, Cells, Order, Audited}
 use Rattle.txn_play.specs.declared.answer.RecordState.{RecordState}
+use Rattle.txn_play.specs.declared.finding.Finding.{Finding}
+use Rattle.txn_play.specs.declared.finding.Finding.TheVariants as finding
 use Rattle.txn_cli.specs.Faults.{status_of}
 use Rattle.txn_cli.specs.declared.fault.Fault.{Fault}
 use Rattle.txn_cli.specs.declared.fault.Fault.TheVariants as fault
@@ -46,12 +48,23 @@ abbrev pub order_text : ℕ → List Entry → List ℕ
 order_text number [] = []
 order_text number (entry ∷ entries) = entry_line number entry ++ order_text (number + 1) entries
 
+-- what an audit finds against a store
+abbrev pub finding_text : Finding → List ℕ
+finding_text (finding.Unsound rule at) =
+    line (codes "unsound: rule " ++ decimal rule ++ codes " at " ++ name_text at)
+finding_text finding.TooManyCells = codes "unsound: more than 200000 cells\n"
+
+abbrev pub verdict_text : Option Finding → List ℕ
+verdict_text None = codes "sound\n"
+verdict_text (Some found) = finding_text found
+
 abbrev pub answer_text : Answer → List ℕ
 answer_text Nothing = []
 answer_text (States states) = flat_map state_line states
 answer_text (Documents docs) = documents_text docs
 answer_text (Cells cells) = flat_map cell_line cells
 answer_text (Order entries) = order_text 1 entries
+answer_text (Audited found) = verdict_text found
 
 -- whether an answer is printed
 abbrev pub prints : Answer → Bool
@@ -60,6 +73,7 @@ prints (States _) = true
 prints (Documents _) = true
 prints (Cells _) = true
 prints (Order _) = true
+prints (Audited _) = true
 
 abbrev pub answers_text : List Answer → List ℕ
 answers_text answers = flat_map answer_text answers
@@ -82,6 +96,8 @@ step_text step.OutOfMemory = codes "out of memory\n"
 abbrev pub fault_text : Fault → List ℕ
 fault_text fault.Words = usage_text
 fault_text (fault.Line number text) = line (codes "line " ++ decimal number ++ codes ": " ++ text)
+fault_text (fault.Unsound rule at) = finding_text (finding.Unsound rule at)
+fault_text fault.TooManyCells = finding_text finding.TooManyCells
 fault_text fault.Store = codes "store fault\n"
 fault_text fault.Input = codes "input fault\n"
 fault_text fault.Output = []

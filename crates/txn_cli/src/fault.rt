@@ -4,6 +4,7 @@ ghost use Rattle.std.specs.Prelude.{◌≡◌, ◌↔◌, IsTrue};
 ghost use Rattle.txn_cli.specs.Faults.{status_of};
 
 use doc_value::Text;
+use store_trait::Name;
 use txn_key::TxnId;
 use txn_runner::StepError;
 
@@ -14,6 +15,10 @@ pub enum Fault {
     Words,
     /// A line of the script was refused.
     Line { line: u64, text: Text },
+    /// The store isn't sound: the first rule that fails, and the first name at which it does.
+    Unsound { rule: u8, name: Name },
+    /// The store has more than 200,000 cells.
+    TooManyCells,
     Store,
     Input,
     Output,
@@ -34,6 +39,8 @@ impl Fault {
         match self {
             Fault::Words => 2,
             Fault::Line { .. } => 3,
+            Fault::Unsound { .. } => 4,
+            Fault::TooManyCells => 4,
             Fault::Store => 5,
             Fault::Input => 6,
             Fault::Output => 7,

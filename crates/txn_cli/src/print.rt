@@ -2,19 +2,20 @@
 
 ghost use Rattle.std.specs.Prelude.{◌≡◌, ◌++◌, OnErr, OnOk, IfOk, true};
 ghost use Rattle.std.specs.List.{flat_map};
+ghost use Rattle.std.specs.Option.{option_copied};
 ghost use Rattle.txn_key.specs.Documents.{pairs_of};
-ghost use Rattle.txn_cli.specs.Output.{answer_text, fault_text, order_text, prints, state_line, state_word, step_text};
+ghost use Rattle.txn_cli.specs.Output.{answer_text, fault_text, finding_text, order_text, prints, state_line, state_word, step_text, verdict_text};
 ghost use Rattle.txn_script.specs.Texts.{cell_line, document_line};
 
 use crate::fault::Fault;
 use doc_value::OutOfMemory;
 use std::alloc::Global;
-use store_trait::Named;
+use store_trait::{Name, Named};
 use txn_key::{Doc, Key, Token, TxnId};
-use txn_play::{Answer, RecordState};
+use txn_play::{Answer, Finding, RecordState};
 use txn_record::{Entry, State};
 use txn_runner::StepError;
-use txn_script::{push_cell, push_document, push_entry, push_key};
+use txn_script::{push_cell, push_document, push_entry, push_key, push_name};
 
 /// The lines of what a statement answers.
 pub fn lines_of(alloc: Global, answer: &Answer) -> Result<Vec<u8>, OutOfMemory>
@@ -28,6 +29,7 @@ pub fn lines_of(alloc: Global, answer: &Answer) -> Result<Vec<u8>, OutOfMemory>
         Answer::Documents(docs) => push_documents(&mut lines, docs.as_slice())?,
         Answer::Cells(cells) => push_cells(alloc, &mut lines, cells.as_slice())?,
         Answer::Order(entries) => push_order(alloc, &mut lines, entries.as_slice())?,
+        Answer::Audited(found) => push_verdict(alloc, &mut lines, found.as_ref())?,
     }
     Ok(lines)
 }
@@ -62,6 +64,38 @@ fn push_order(alloc: Global, lines: &mut Vec<u8>, entries: &[Entry]) -> Result<(
     }
     Ok(())
 }
+
+/// The line of what an audit finds, if something.
+fn push_verdict(
+    alloc: Global,
+    out: &mut Vec<u8>,
+    found: Option<&Finding>,
+) -> Result<(), OutOfMemory>
+    ensures { OnOk result (out.new.items ≡ out.old.items ++
+        verdict_text (option_copied found.entry)) }
+{
+    match found {
+        None => out.extend_from_slice(b"sound\n"),
+        Some(Finding::Unsound { rule, name }) => push_unsound(alloc, out, *rule, name),
+        Some(Finding::TooManyCells) => out.extend_from_slice(TOO_MANY_CELLS),
+    }
+}
+
+/// The line of a rule that fails at a name.
+fn push_unsound(alloc: Global, out: &mut Vec<u8>, rule: u8, name: &Name) -> Result<(), OutOfMemory>
+    ensures { OnOk result (out.new.items ≡ out.old.items ++
+        finding_text (Finding.Unsound rule name.now)) }
+{
+    out.extend_from_slice(b"unsound: rule ")?;
+    let mut buffer = itoa::Buffer::new();
+    out.extend_from_slice(buffer.format(rule).as_bytes())?;
+    out.extend_from_slice(b" at ")?;
+    push_name(alloc, out, name)?;
+    out.push(b'\n')?;
+    Ok(())
+}
+
+const TOO_MANY_CELLS: &[u8] = b"unsound: more than 200000 cells\n";
 
 /// A line for each transaction, in their order.
 fn push_states(
@@ -112,6 +146,8 @@ pub fn last_line(alloc: Global, fault: &Fault) -> Result<Vec<u8>, OutOfMemory>
     match fault {
         Fault::Words => Vec::from_slice(alloc, USAGE),
         Fault::Line { line, text } => refusal_line(alloc, *line, text.as_str()),
+        Fault::Unsound { rule, name } => unsound_line(alloc, *rule, name),
+        Fault::TooManyCells => Vec::from_slice(alloc, TOO_MANY_CELLS),
         Fault::Store => Vec::from_slice(alloc, b"store fault\n"),
         Fault::Input => Vec::from_slice(alloc, b"input fault\n"),
         Fault::Output => Ok(Vec::new(alloc)),
@@ -120,6 +156,14 @@ pub fn last_line(alloc: Global, fault: &Fault) -> Result<Vec<u8>, OutOfMemory>
         Fault::Broken(error) => step_line(alloc, error),
         Fault::Repeated(id) => clash_line(alloc, *id),
     }
+}
+
+fn unsound_line(alloc: Global, rule: u8, name: &Name) -> Result<Vec<u8>, OutOfMemory>
+    ensures { IfOk result (λ out. out.items ≡ finding_text (Finding.Unsound rule name.now)) }
+{
+    let mut out = Vec::new(alloc);
+    push_unsound(alloc, &mut out, rule, name)?;
+    Ok(out)
 }
 
 fn refusal_line(alloc: Global, line: u64, text: &str) -> Result<Vec<u8>, OutOfMemory>

@@ -1,13 +1,13 @@
 //! Why a line was not done to its end.
 
 ghost use Rattle.std.specs.Prelude.{◌≡◌, ◌⊎◌};
-ghost use Rattle.txn_cli.specs.Faults.{fault_of_stop, objection_text, stop_of_reading, OrShort};
+ghost use Rattle.txn_cli.specs.Faults.{fault_of_finding, fault_of_stop, objection_text, stop_of_reading, OrShort};
 ghost use Rattle.txn_script.specs.Faults.{fault_text as script_text};
 
 use crate::fault::Fault;
 use doc_value::Text;
 use std::alloc::Global;
-use txn_play::{Objection, Refusal};
+use txn_play::{Finding, Objection, Refusal};
 use txn_script::ScriptFault;
 
 /// Why a line was not done to its end. Its number is put on it by the loop over lines.
@@ -50,6 +50,7 @@ impl Stop {
         match self {
             Stop::Misread(why) => refused_as(alloc, number, why),
             Stop::Refused(Refusal::Objected(why)) => refused_by(alloc, number, text_of(why)),
+            Stop::Refused(Refusal::Found(found)) => found_fault(found),
             Stop::Refused(Refusal::Store) => Fault::Store,
             Stop::Refused(Refusal::OutOfMemory) => Fault::OutOfMemory,
             Stop::Refused(Refusal::Spent(error)) => Fault::Spent(error),
@@ -57,6 +58,16 @@ impl Stop {
             Stop::Refused(Refusal::Repeated(id)) => Fault::Repeated(id),
             Stop::Output => Fault::Output,
         }
+    }
+}
+
+/// How what an audit finds ends the call.
+fn found_fault(found: Finding) -> Fault
+    ensures { result ≡ fault_of_finding found }
+{
+    match found {
+        Finding::Unsound { rule, name } => Fault::Unsound { rule, name },
+        Finding::TooManyCells => Fault::TooManyCells,
     }
 }
 

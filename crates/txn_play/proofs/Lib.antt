@@ -2,7 +2,6 @@ pub mod Attending
 pub mod BatchRuns
 pub mod Batches
 pub mod Causing
-pub mod Cells
 pub mod IndexLaws
 pub mod OnlyReading
 pub mod Opening

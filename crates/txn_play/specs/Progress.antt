@@ -15,7 +15,6 @@ use Rattle.store_trait.specs.declared.cell.Named.{Named}
 use Rattle.store_trait.specs.declared.name.Name.{Name}
 use Rattle.store_trait.specs.declared.name.Name.TheVariants as name
 use Rattle.store_laws.specs.Meaning.{meaning}
-use Rattle.store_laws.specs.Soundness.{IsSound}
 use Rattle.store_laws.specs.Steps.{IsStep}
 use Rattle.store_laws.specs.View.{record_at}
 use Rattle.txn_runner.specs.Built.{is_built}
@@ -26,11 +25,14 @@ use Rattle.txn_runner.specs.declared.waiting.Waiting.{Waiting}
 use Rattle.txn_script.specs.declared.plan.GoPlan.{GoPlan}
 use Rattle.txn_script.specs.declared.statement.Statement.{Statement}
 use Rattle.txn_script.specs.declared.statement.Statement.TheVariants as statement
+use Rattle.txn_audit.specs.Audits.{PassesAudit}
 use Rattle.txn_play.specs.Batches.{waits, Every, StandsIn, record_states}
+use Rattle.txn_play.specs.Readings.{IsVerdict}
 use Rattle.txn_play.specs.Remains.{Holding}
 use Rattle.txn_play.specs.declared.answer.Answer.{Answer}
 use Rattle.txn_play.specs.declared.answer.Answer.TheVariants as answer
 use Rattle.txn_play.specs.declared.answer.RecordState.{RecordState}
+use Rattle.txn_play.specs.declared.finding.Finding.{Finding}
 use Rattle.txn_play.specs.declared.objection.Objection.{Objection}
 use Rattle.txn_play.specs.declared.objection.Objection.TheVariants as objection
 use Rattle.txn_play.specs.declared.run.Run.{Run}
@@ -74,7 +76,7 @@ abbrev pub is_nothing : {A : Type 0} → List A → Bool
 is_nothing [] = true
 is_nothing (_ ∷ _) = false
 
--- A batch is run, and documents are shown, where documents alone were placed.
+-- A batch is run where documents alone were placed.
 abbrev pub unless_alone : Progress → Option Objection
 unless_alone p = if p.documents_alone then None else Some objection.NotBuilt
 
@@ -114,8 +116,8 @@ against p (statement.Go plan) = if is_default plan then unless_alone p else Some
 against p (statement.Resume id) = Some objection.NotBuilt
 against p statement.Prune = Some objection.NotBuilt
 against p statement.Purge = Some objection.NotBuilt
-against p statement.Audit = Some objection.NotBuilt
-against p statement.Show = unless_alone p
+against p statement.Audit = None
+against p statement.Show = None
 against p statement.Export = None
 against p statement.Order = None
 
@@ -128,7 +130,7 @@ lets_run (statement.Go plan) = false
 lets_run (statement.Resume id) = false
 lets_run statement.Prune = false
 lets_run statement.Purge = false
-lets_run statement.Audit = false
+lets_run statement.Audit = true
 lets_run statement.Show = true
 lets_run statement.Export = true
 lets_run statement.Order = true
@@ -145,14 +147,14 @@ objection_to p s =
 
 -- ---- what a statement does
 
--- A batch was run over the one content, and left the other: nothing went back, and nobody has anything left
--- to do. The Run's base is what the store meant, and the order is legal and leads to what the store means
--- now. Each transaction of the batch is applied or
--- aborted and has its entry, and the order has no others; no other record was touched. Each used at most
--- one nonce, and one number of a document. One runner alone takes no turns.
+-- A batch was run over the one content, which passes an audit, and left the other: nothing went back, and
+-- nobody has anything left to do. The Run's base is what the store meant, and the order is legal and leads to
+-- what the store means now. Each transaction of the batch is applied or aborted and has its entry, and the
+-- order has no others; no other record was touched. Each used at most one nonce, and one number of a
+-- document. One runner alone takes no turns.
 pub record RanBatch (old new : Content) (waiting : List Waiting) (run : Run) (states : List RecordState)
     : Type 0 where
-  pub opens : IsSound old
+  pub opens : PassesAudit old
   pub step : IsStep old new
   pub calm : IsCalm new
   pub base : run.base ≡ meaning old
@@ -196,6 +198,12 @@ pub record Tells (p q : Progress) (said expected : Answer) : Type 0 where
   pub stays : q ≡ record p { begun = true; calls = q.calls }
   pub answers : said ≡ expected
 
+-- nothing changes, and the answer is what an audit finds, if something
+pub record TellsFinding (p q : Progress) (said : Answer) : Type 0 where
+  pub found : Option Finding
+  pub is : IsVerdict p.content found
+  pub tells : Tells p q said (answer.Audited found)
+
 -- What a statement does, and what it answers, where nothing is against it. How many calls it takes isn't
 -- said.
 abbrev pub Performs : Statement → Progress → Progress → Answer → Type 0
@@ -212,9 +220,11 @@ Performs (statement.Go plan) p q said = RunsBatch p q said
 Performs (statement.Resume id) p q said = ⊥
 Performs statement.Prune p q said = ⊥
 Performs statement.Purge p q said = ⊥
-Performs statement.Audit p q said = ⊥
-Performs statement.Show p q said = Tells p q said (answer.Documents (meaning p.content))
-Performs statement.Export p q said = Tells p q said (answer.Cells (cells_of p.content))
+Performs statement.Audit p q said = TellsFinding p q said
+Performs statement.Show p q said =
+    PassesAudit p.content × Tells p q said (answer.Documents (meaning p.content))
+Performs statement.Export p q said =
+    (length (entries p.content) ≤ 200000) × Tells p q said (answer.Cells (cells_of p.content))
 Performs statement.Order p q said = Tells p q said (answer.Order (decided_in p.runs))
 
 -- Nothing is against a statement, and it was done. A batch that waits has run before what lets it.

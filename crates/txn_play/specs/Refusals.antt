@@ -8,10 +8,14 @@ use Rattle.store_trait.specs.declared.store.Store.{Ghosts}
 use Rattle.store_trait.specs.declared.store.StoreError.{StoreError}
 use Rattle.store_trait.specs.declared.store.StoreError.TheVariants as store_error
 use Rattle.store_laws.specs.View.{counter}
+use Rattle.txn_audit.specs.declared.error.AuditError.{AuditError}
+use Rattle.txn_audit.specs.declared.error.AuditError.TheVariants as audit
 use Rattle.txn_runner.specs.Causes.{LastShows, ShowsClash, ShowsNoNonce, ShowsRepeated, ShowsSpentRevno}
 use Rattle.txn_runner.specs.Settling.{IsRevnoSpent}
 use Rattle.txn_runner.specs.declared.error.StepError.{StepError}
 use Rattle.txn_runner.specs.declared.error.StepError.TheVariants as step
+use Rattle.txn_play.specs.Readings.{HasFound}
+use Rattle.txn_play.specs.declared.finding.Finding.TheVariants as finding
 use Rattle.txn_play.specs.declared.refusal.Refusal.{Refusal}
 use Rattle.txn_play.specs.declared.refusal.Refusal.TheVariants as refusal
 
@@ -19,6 +23,13 @@ use Rattle.txn_play.specs.declared.refusal.Refusal.TheVariants as refusal
 abbrev pub refusal_of_store : StoreError → Refusal
 refusal_of_store store_error.Failed = refusal.Store
 refusal_of_store store_error.OutOfMemory = refusal.OutOfMemory
+
+-- how what ends an audit does
+abbrev pub refusal_of_audit : AuditError → Refusal
+refusal_of_audit (audit.Unsound rule at) = refusal.Found (finding.Unsound rule at)
+refusal_of_audit audit.TooMany = refusal.Found finding.TooManyCells
+refusal_of_audit audit.StoreFault = refusal.Store
+refusal_of_audit audit.OutOfMemory = refusal.OutOfMemory
 
 -- how the refusal of a step does
 abbrev pub refusal_of_step : StepError → Refusal
@@ -29,10 +40,16 @@ refusal_of_step (step.RevnoSpent key) = refusal.Spent (step.RevnoSpent key)
 refusal_of_step (step.Lost token) = refusal.Broken (step.Lost token)
 refusal_of_step (step.Clash id at) = refusal.Broken (step.Clash id at)
 
--- the refusals that running a batch may end with
-abbrev pub IsOfRun : Refusal → Type 0
-IsOfRun (refusal.Objected _) = ⊥
-IsOfRun _ = Unit {0}
+-- nothing stands against the statement
+abbrev pub IsNoObjection : Refusal → Type 0
+IsNoObjection (refusal.Objected _) = ⊥
+IsNoObjection _ = Unit {0}
+
+-- the refusals that the steps of a batch may end with
+abbrev pub IsOfSteps : Refusal → Type 0
+IsOfSteps (refusal.Objected _) = ⊥
+IsOfSteps (refusal.Found _) = ⊥
+IsOfSteps _ = Unit {0}
 
 -- neither a nonce nor a number was wanting
 abbrev pub IsUnspent : Refusal → Type 0
@@ -45,9 +62,10 @@ IsUsedUp c step.NoncesSpent = nonce_limit ≤ counter c
 IsUsedUp c (step.RevnoSpent key) = IsRevnoSpent c key
 IsUsedUp c _ = ⊥
 
--- Why the run of a batch may be refused, over a store that tells what it holds: it is never that a
--- record was missing, or another one than was written.
+-- Why a statement may be refused, over a store that tells what it holds: what an audit finds is so, and it is
+-- never that a record was missing, or another one than was written.
 abbrev pub HasReason : Content → Refusal → Type 0
+HasReason c (refusal.Found found) = HasFound c (refusal.Found found)
 HasReason c (refusal.Spent error) = IsUsedUp c error
 HasReason c (refusal.Broken error) = ⊥
 HasReason c (refusal.Repeated id) = ⊥

@@ -53,6 +53,7 @@ LeavesUnfinished c waiting _ = IsUnfinished c waiting
 -- wanting behind one that was finished.
 abbrev pub HasLeft : Bool → List Waiting → (ℕ → Content) → Holding → Holding → Refusal → Type 0
 HasLeft may_run waiting trail old new (refusal.Objected _) = Stays old new
+HasLeft may_run waiting trail old new (refusal.Found _) = Stays old new
 HasLeft may_run waiting trail old new refusal.OutOfMemory =
     Stays old new ⊎ ((may_run ≡ true) × HasBegun waiting trail old new)
 HasLeft may_run waiting trail old new _ =

@@ -1,5 +1,6 @@
 //! What a statement comes to, as a value: it is printed at the edge.
 
+use crate::finding::Finding;
 use sqlite_items::Items;
 use store_trait::Named;
 use txn_key::{Docs, TxnId};
@@ -13,7 +14,7 @@ pub struct RecordState {
 }
 
 /// What a statement comes to: nothing to print, the transactions of a batch with their states, the
-/// documents, the cells in the order of names, or the decisions of all Runs.
+/// documents, the cells in the order of names, the decisions of all Runs, or what an audit finds, if something.
 #[derive(Drop)]
 pub enum Answer {
     Nothing,
@@ -21,4 +22,5 @@ pub enum Answer {
     Documents(Docs),
     Cells(Items<Named>),
     Order(Items<Entry>),
+    Audited(Option<Finding>),
 }

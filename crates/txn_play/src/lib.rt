@@ -9,8 +9,9 @@
 mod admission;
 mod answer;
 mod batch;
-mod listing;
+mod finding;
 mod objection;
+mod reading;
 mod refusal;
 mod run;
 mod session;
@@ -19,6 +20,7 @@ mod settling;
 pub use admission::is_empty;
 pub use answer::{Answer, RecordState};
 pub use batch::Batch;
+pub use finding::Finding;
 pub use objection::Objection;
 pub use refusal::Refusal;
 pub use run::Run;

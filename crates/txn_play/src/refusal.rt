@@ -2,13 +2,15 @@
 
 ghost use Rattle.std.specs.Prelude.{◌≡◌};
 ghost use Rattle.store_trait.specs.Contents.{Content};
-ghost use Rattle.txn_play.specs.Refusals.{refusal_of_step, HasReason, IsOfRun, IsUnspent};
+ghost use Rattle.txn_play.specs.Refusals.{refusal_of_step, HasReason, IsOfSteps, IsUnspent};
 ghost use Rattle.txn_runner.specs.Causes.{IsOfStore};
 ghost use Rattle.txn_runner.specs.Settling.{MayStop};
 
+use crate::finding::Finding;
 use crate::objection::Objection;
 use std::alloc::AllocError;
 use store_trait::StoreError;
+use txn_audit::AuditError;
 use txn_key::TxnId;
 use txn_runner::StepError;
 
@@ -17,6 +19,8 @@ use txn_runner::StepError;
 pub enum Refusal {
     /// Something stands against the statement.
     Objected(Objection),
+    /// An audit finds something against the store.
+    Found(Finding),
     Store,
     OutOfMemory,
     /// Nonces or revision numbers are used up.
@@ -63,10 +67,26 @@ impl From<StoreError> for Refusal {
     }
 }
 
+impl From<AuditError> for Refusal {
+    ghost use Rattle.std.specs.Prelude.{◌≡◌};
+    ghost use Rattle.txn_play.specs.Refusals.{refusal_of_audit};
+
+    ghost from_gives = { λ error refusal. refusal ≡ refusal_of_audit error };
+
+    fn from(error: AuditError) -> Refusal {
+        match error {
+            AuditError::Unsound { rule, name } => Refusal::Found(Finding::Unsound { rule, name }),
+            AuditError::TooMany => Refusal::Found(Finding::TooManyCells),
+            AuditError::StoreFault => Refusal::Store,
+            AuditError::OutOfMemory => Refusal::OutOfMemory,
+        }
+    }
+}
+
 /// How the refusal of a step refuses the statement.
 pub(crate) fn refusal_of(error: StepError) -> Refusal
     ensures exact { result ≡ refusal_of_step error }
-    ensures kind { IsOfRun result }
+    ensures kind { IsOfSteps result }
     ensures reason { (c : Content) → MayStop c error → HasReason c result }
     ensures unspent { IsOfStore error → IsUnspent result }
     ensures store { result ≡ Refusal.Store → error ≡ StepError.StoreFault }

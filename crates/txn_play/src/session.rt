@@ -11,9 +11,9 @@ ghost use Rattle.txn_script.specs.declared.statement.Statement.TheVariants as st
 use crate::admission::{against_record, place, placed_doc};
 use crate::answer::Answer;
 use crate::batch::Batch;
-use crate::listing::list_cells;
 use crate::objection::Objection;
-use crate::refusal::{Refusal, refusal_of};
+use crate::reading::{cells, documents, finding};
+use crate::refusal::Refusal;
 use crate::run::{Run, decided_in};
 use crate::settling::run_batch;
 use doc_value::Value;
@@ -21,7 +21,7 @@ use std::alloc::Global;
 use store_trait::{Cell, Name, Store};
 use txn_key::{Key, TxnId};
 use txn_record::Ops;
-use txn_runner::{Waiting, list_documents};
+use txn_runner::Waiting;
 use txn_script::{GoPlan, Statement};
 
 /// How far a script has come.
@@ -31,8 +31,8 @@ pub struct Session<S> {
     pub batch: Batch,
     /// A statement stood that places nothing.
     pub begun: bool,
-    /// Documents alone were placed, over a store that had no cell as the call began: batches are run, and
-    /// documents shown, over such a store alone.
+    /// Documents alone were placed, over a store that had no cell as the call began: batches are run over such a
+    /// store alone.
     pub documents_alone: bool,
 }
 
@@ -42,9 +42,9 @@ pub fn lets_run(statement: &Statement) -> bool
 {
     match statement {
         Statement::Doc { .. } | Statement::Place { .. } => true,
-        Statement::Show | Statement::Export | Statement::Order => true,
+        Statement::Show | Statement::Export | Statement::Order | Statement::Audit => true,
         Statement::Submit { .. } | Statement::Go(_) => false,
-        Statement::Resume(_) | Statement::Prune | Statement::Purge | Statement::Audit => false,
+        Statement::Resume(_) | Statement::Prune | Statement::Purge => false,
     }
 }
 
@@ -76,7 +76,8 @@ impl<S: Store> Session<S> {
             Statement::Show => self.show(alloc),
             Statement::Export => self.export(alloc),
             Statement::Order => self.order(alloc),
-            Statement::Resume(_) | Statement::Prune | Statement::Purge | Statement::Audit => {
+            Statement::Audit => self.audit(alloc),
+            Statement::Resume(_) | Statement::Prune | Statement::Purge => {
                 Err(Refusal::Objected(Objection::NotBuilt))
             }
         }
@@ -195,16 +196,9 @@ impl<S: Store> Session<S> {
         requires cleared { self.old.batch ≡ [] }
         ensures { HasAttended S.Store statement.Show self.old self.new result }
     {
-        if !self.documents_alone {
-            return Err(Refusal::Objected(Objection::NotBuilt));
-        }
-        match list_documents(alloc, &mut self.store) {
-            Ok(docs) => {
-                self.begun = true;
-                Ok(Answer::Documents(docs))
-            }
-            Err(error) => Err(refusal_of(error)),
-        }
+        let docs = documents(alloc, &mut self.store)?;
+        self.begun = true;
+        Ok(Answer::Documents(docs))
     }
 
     fn export(&mut self, alloc: Global) -> Result<Answer, Refusal>
@@ -212,7 +206,7 @@ impl<S: Store> Session<S> {
         requires cleared { self.old.batch ≡ [] }
         ensures { HasAttended S.Store statement.Export self.old self.new result }
     {
-        let cells = list_cells(alloc, &mut self.store)?;
+        let cells = cells(alloc, &mut self.store)?;
         self.begun = true;
         Ok(Answer::Cells(cells))
     }
@@ -225,5 +219,15 @@ impl<S: Store> Session<S> {
         let order = decided_in(alloc, self.runs.as_slice())?;
         self.begun = true;
         Ok(Answer::Order(order))
+    }
+
+    fn audit(&mut self, alloc: Global) -> Result<Answer, Refusal>
+        requires stands { Stands S.Store self.old }
+        requires cleared { self.old.batch ≡ [] }
+        ensures { HasAttended S.Store statement.Audit self.old self.new result }
+    {
+        let found = finding(alloc, &mut self.store)?;
+        self.begun = true;
+        Ok(Answer::Audited(found))
     }
 }

@@ -8,19 +8,20 @@ ghost use Rattle.txn_play.specs.Batches.{MayRun, IsBegun, IsDoneWith, Every, Has
 ghost use Rattle.txn_runner.specs.Numbers.{Suffices, Uses};
 ghost use Rattle.txn_runner.specs.Settling.{settled_state};
 ghost use Rattle.txn_play.specs.Progress.{HasRunBatch};
-ghost use Rattle.txn_play.specs.Refusals.{IsOfRun, IsUnspent, HasCause, HasReason};
+ghost use Rattle.txn_play.specs.Refusals.{IsNoObjection, IsOfSteps, IsUnspent, HasCause, HasReason};
 ghost use Rattle.txn_play.specs.Remains.{HasLeft, LeavesUnfinished};
 ghost use Rattle.txn_play.specs.Runs.{RunsGoOn};
 ghost use Rattle.txn_record.specs.declared.entry.Entry.{Entry as LogEntry};
 
 use crate::answer::RecordState;
+use crate::reading::documents;
 use crate::refusal::{Refusal, refusal_of};
 use crate::run::Run;
 use sqlite_items::Items;
 use std::alloc::Global;
 use store_trait::Store;
 use txn_record::{Entry, Outcome, State};
-use txn_runner::{Waiting, list_documents, settle, submit};
+use txn_runner::{Waiting, settle, submit};
 
 /// Runs a batch: its records are submitted, and then each transaction is settled in turn. Answers
 /// the states of its records. The Run is kept, also where the batch isn't run to its end.
@@ -53,15 +54,12 @@ pub fn run_batch<S: Store>(
     ensures enough { IsTrue S.tells → Suffices (S.content store.old) (length batch.now) →
         IfErr result IsUnspent }
     ensures cause { IfErr result (HasCause S.Store store.old store.new) }
-    ensures kind { IfErr result IsOfRun }
+    ensures kind { IfErr result IsNoObjection }
     ensures calls { CallsGoOn S.Store store.old store.new }
     ensures fault { IsErrOf result Refusal.Store → Rose (S.faults store.old) (S.faults store.new) }
 {
     runs.reserve(1)?;
-    let base = match list_documents(alloc, store) {
-        Ok(base) => base,
-        Err(error) => return Err(refusal_of(error)),
-    };
+    let base = documents(alloc, store)?;
     let mark = store.calls();
     let mut order = Vec::new(alloc);
     let states = run_all(alloc, store, &mut order, batch);
@@ -97,7 +95,7 @@ fn run_all<S: Store>(
         IfErr result (LeavesUnfinished (S.content store.new) batch.now) }
     ensures reason { IsTrue S.tells → IfErr result (HasReason (S.content store.new)) }
     ensures cause { IfErr result (HasCause S.Store store.old store.new) }
-    ensures kind { IfErr result IsOfRun }
+    ensures kind { IfErr result IsOfSteps }
     ensures calls { CallsGoOn S.Store store.old store.new }
     ensures fault { IsErrOf result Refusal.Store → Rose (S.faults store.old) (S.faults store.new) }
 {
@@ -119,7 +117,7 @@ fn submit_all<S: Store>(alloc: Global, store: &mut S, batch: &[Waiting]) -> Resu
         IfErr result (LeavesUnfinished (S.content store.new) batch.now) }
     ensures reason { IsTrue S.tells → IfErr result (HasReason (S.content store.new)) }
     ensures cause { IfErr result (HasCause S.Store store.old store.new) }
-    ensures kind { IfErr result IsOfRun }
+    ensures kind { IfErr result IsOfSteps }
     ensures calls { CallsGoOn S.Store store.old store.new }
     ensures fault { IsErrOf result Refusal.Store → Rose (S.faults store.old) (S.faults store.new) }
 {
@@ -152,7 +150,7 @@ fn settle_all<S: Store>(
         IfErr result (LeavesUnfinished (S.content store.new) batch.now) }
     ensures reason { IsTrue S.tells → IfErr result (HasReason (S.content store.new)) }
     ensures cause { IfErr result (HasCause S.Store store.old store.new) }
-    ensures kind { IfErr result IsOfRun }
+    ensures kind { IfErr result IsOfSteps }
     ensures calls { CallsGoOn S.Store store.old store.new }
     ensures fault { IsErrOf result Refusal.Store → Rose (S.faults store.old) (S.faults store.new) }
 {
