@@ -21,8 +21,9 @@ use Rattle.txn_runner.specs.declared.waiting.Waiting.{Waiting}
 use Rattle.txn_script.specs.declared.statement.Statement.{Statement}
 use Rattle.txn_script.specs.declared.statement.Statement.TheVariants as statement
 use Rattle.txn_play.specs.Batches.{waits}
-use Rattle.txn_play.specs.Progress.{Progress, against, against_placing, against_waiting, is_nothing, may_settle, most_waiting, lets_run, objection_at_end, objection_to, placed_doc, runs_batch, unless_alone}
-use Rattle.txn_play.specs.Refusals.{CallsAlone, HasCause, HasReason, IsOfRun, IsUnspent, refusal_of_store}
+use Rattle.txn_play.specs.Progress.{Performs, Progress, against, against_placing, against_waiting, is_nothing, may_settle, most_waiting, lets_run, objection_at_end, objection_to, placed_doc, runs_batch, unless_alone}
+use Rattle.txn_play.specs.Readings.{HasFound, IsOfReading, ReadsAlone}
+use Rattle.txn_play.specs.Refusals.{CallsAlone, HasCause, HasReason, IsNoObjection, IsUnspent, refusal_of_store}
 use Rattle.txn_play.specs.Remains.{HasLeft, Stays}
 use Rattle.txn_play.specs.Runs.{RunsGoOn}
 use Rattle.txn_play.specs.Sessions.{HasAttended, HasEnough, IsAgainst, IsCaused, IsKept, IsRefused, KeepsRest, Stands, at, holding}
@@ -36,7 +37,8 @@ use Rattle.txn_play.specs.declared.run.Run.{Run}
 use Rattle.txn_play.specs.declared.session.Session.{Session}
 use Rattle.store_laws.proofs.trails.CallsMade.{call_after, calls_then, rose_before}
 use Rattle.txn_play.proofs.BatchRuns.{stays_left}
-use Rattle.txn_play.proofs.Sessions.{no_run_yet, placing_stands}
+use Rattle.store_laws.specs.Reads.{OnlyReads}
+use Rattle.txn_play.proofs.Sessions.{kept_reading, no_run_yet, placing_stands, refused_reading}
 
 -- where nothing waits, a statement is looked at at once
 pub nothing_first : (p : Progress) (s : Statement) → p.waiting ≡ [] → objection_to p s ≡ against p s
@@ -65,8 +67,9 @@ nothing_against false true e = (refl, refl)
 nothing_against false false e = absurd (cc)
 
 -- the refusal of a batch that runs is by no objection
-pub of_run_against : (o : Option Objection) (why : Refusal) → IsOfRun why → IsAgainst o why
+pub of_run_against : (o : Option Objection) (why : Refusal) → IsNoObjection why → IsAgainst o why
 of_run_against o (refusal.Objected w) h = elim h [ ]
+of_run_against o (refusal.Found f) h = tt
 of_run_against o refusal.Store h = tt
 of_run_against o refusal.OutOfMemory h = tt
 of_run_against o (refusal.Spent e) h = tt
@@ -79,6 +82,7 @@ failed why = Err why
 -- nor is that of a few calls on the store
 pub failed_against : {T : Type 0} (o : Option Objection) (why : Refusal) → (failed {T = T} why ≡ failed refusal.Store) ⊎ (failed {T = T} why ≡ failed refusal.OutOfMemory) → IsAgainst o why
 failed_against o (refusal.Objected w) h = absurd (⊎_elim (λ e. cc) (λ e. cc) h)
+failed_against o (refusal.Found f) h = absurd (⊎_elim (λ e. cc) (λ e. cc) h)
 failed_against o refusal.Store h = tt
 failed_against o refusal.OutOfMemory h = tt
 failed_against o (refusal.Spent e) h = tt
@@ -87,6 +91,7 @@ failed_against o (refusal.Repeated id) h = tt
 
 pub failed_caused : {S T : Type 0} (store : Ghosts S) (old new : Session S) (why : Refusal) → CallsAlone {T = T} store old.store new.store (Err why) → IsCaused store old new why
 failed_caused store old new (refusal.Objected w) h = absurd (⊎_elim (λ e. cc) (λ e. cc) h.other)
+failed_caused store old new (refusal.Found f) h = absurd (⊎_elim (λ e. cc) (λ e. cc) h.other)
 failed_caused store old new refusal.Store h = record { fault = λ e. h.fault refl; reason = λ told. tt; enough = λ told enough. tt; cause = tt }
 failed_caused store old new refusal.OutOfMemory h = record { fault = λ e. absurd (cc); reason = λ told. tt; enough = λ told enough. tt; cause = tt }
 failed_caused store old new (refusal.Spent e) h = absurd (⊎_elim (λ x. cc) (λ x. cc) h.other)
@@ -99,6 +104,95 @@ failed_refused store may_run old new why h same runs rest = record {
   rest = rest;
   left = λ told. stays_left may_run old.batch (store.trail new.store) (holding store old) (holding store new) why (record { holds = same told; runs = runs });
   caused = failed_caused store old new why h;
+}
+
+-- reading a whole store is refused by no objection
+pub read_against : (o : Option Objection) (why : Refusal) → IsOfReading why → IsAgainst o why
+read_against o (refusal.Objected w) h = elim h [ ]
+read_against o (refusal.Found f) h = tt
+read_against o refusal.Store h = tt
+read_against o refusal.OutOfMemory h = tt
+read_against o (refusal.Spent e) h = tt
+read_against o (refusal.Broken e) h = tt
+read_against o (refusal.Repeated id) h = tt
+
+read_reason : (c : Content) (why : Refusal) → IsOfReading why → HasFound c why → HasReason c why
+read_reason c (refusal.Found f) kind h = h
+read_reason c refusal.Store kind h = tt
+read_reason c refusal.OutOfMemory kind h = tt
+read_reason c (refusal.Objected w) kind h = elim kind [ ]
+read_reason c (refusal.Spent e) kind h = elim kind [ ]
+read_reason c (refusal.Broken e) kind h = elim kind [ ]
+read_reason c (refusal.Repeated id) kind h = elim kind [ ]
+
+read_unspent : (why : Refusal) → IsOfReading why → IsUnspent why
+read_unspent (refusal.Found f) kind = tt
+read_unspent refusal.Store kind = tt
+read_unspent refusal.OutOfMemory kind = tt
+read_unspent (refusal.Objected w) kind = elim kind [ ]
+read_unspent (refusal.Spent e) kind = elim kind [ ]
+read_unspent (refusal.Broken e) kind = elim kind [ ]
+read_unspent (refusal.Repeated id) kind = elim kind [ ]
+
+read_cause : {S : Type 0} (store : Ghosts S) (old new : S) (why : Refusal) → IsOfReading why → HasCause store old new why
+read_cause store old new (refusal.Found f) kind = tt
+read_cause store old new refusal.Store kind = tt
+read_cause store old new refusal.OutOfMemory kind = tt
+read_cause store old new (refusal.Objected w) kind = elim kind [ ]
+read_cause store old new (refusal.Spent e) kind = elim kind [ ]
+read_cause store old new (refusal.Broken e) kind = elim kind [ ]
+read_cause store old new (refusal.Repeated id) kind = elim kind [ ]
+
+module _ {S T : Type 0} (store : Ghosts S) (old new : S) (why : Refusal) (h : ReadsAlone {T = T} store old new (Err why)) where
+  -- how reading a whole store is refused
+  pub reading_reason : IsTrue store.tells → HasReason (store.content new) why
+  reading_reason told = subst (λ (c : Content). HasReason c why) (sym (h.only told).same) (read_reason (store.content old) why h.kind (h.found told))
+
+  pub reading_unspent : IsUnspent why
+  reading_unspent = read_unspent why h.kind
+
+  pub reading_cause : HasCause store old new why
+  reading_cause = read_cause store old new why h.kind
+
+-- a statement that reads a whole store is refused so
+pub reading_refused : {S T : Type 0} (store : Ghosts S) (s : Statement) (old new : Session S) (why : Refusal) → Stands store old → ReadsAlone {T = T} store old.store new.store (Err why)
+    → new.runs.items ≡ old.runs.items → KeepsRest old new → HasAttended store s old new (Err why)
+reading_refused store s old new why stands h runs rest = record {
+  done = λ told. tt;
+  against = λ told. read_against _ why h.kind;
+  refused = record {
+    rest = rest;
+    left = λ told. stays_left (runs_batch s) old.batch (store.trail new.store) (holding store old) (holding store new) why (record { holds = (h.only told).same; runs = runs });
+    caused = record {
+      fault = λ e. h.fault (ap Err e);
+      reason = reading_reason store old.store new.store why h;
+      enough = λ told enough. reading_unspent store old.store new.store why h;
+      cause = reading_cause store old.store new.store why h;
+    };
+  };
+  kept = refused_reading store old new why stands h.only h.calls runs;
+}
+
+-- one that tells what it read is done
+pub reading_done : {S : Type 0} (store : Ghosts S) (s : Statement) (old new : Session S) (said : Answer) → Stands store old → (IsTrue store.tells → OnlyReads store old.store new.store) → CallsGoOn store old.store new.store
+    → old.batch ≡ [] → against (at store old) s ≡ None → (IsTrue store.tells → at store new ≡ record (at store old) { begun = true; calls = store.calls new.store } → Performs s (at store old) (at store new) said)
+    → new.runs.items ≡ old.runs.items → KeepsRest (record old { begun = new.begun }) new → new.begun ≡ true → HasAttended store s old new (Ok said)
+reading_done store s old new said stands reads on cleared free performs runs rest begun = record {
+  done = λ told. record {
+    cleared = λ lets. cleared;
+    allowed = nothing_first (at store old) s cleared ∙ free;
+    performs = performs told (λ i. record {
+      content = (reads told).same i;
+      calls = store.calls new.store;
+      waiting = rest.batch i;
+      begun = begun i;
+      documents_alone = rest.alone i;
+      runs = runs i;
+    });
+  };
+  against = λ told. tt;
+  refused = tt;
+  kept = kept_reading store old new said stands reads on runs rest.alone rest.batch begun;
 }
 
 -- an objection leaves all as it was
@@ -129,6 +223,7 @@ store_failed store old new store_error.OutOfMemory on rose = record { calls = on
 pub calls_after : {S T U : Type 0} (store : Ghosts S) (a b c : S) (why : Refusal) → CallsGoOn store a b → CallsAlone {T = T} store b c (Err why) → CallsAlone {T = U} store a c (Err why)
 calls_after store a b c refusal.Store on h = record { calls = calls_then store a b c on h.calls; fault = λ e. rose_before on.later (h.fault refl); other = inl refl }
 calls_after store a b c refusal.OutOfMemory on h = record { calls = calls_then store a b c on h.calls; fault = λ e. absurd (cc); other = inr refl }
+calls_after store a b c (refusal.Found f) on h = absurd (⊎_elim (λ e. cc) (λ e. cc) h.other)
 calls_after store a b c (refusal.Objected w) on h = absurd (⊎_elim (λ e. cc) (λ e. cc) h.other)
 calls_after store a b c (refusal.Spent x) on h = absurd (⊎_elim (λ e. cc) (λ e. cc) h.other)
 calls_after store a b c (refusal.Broken x) on h = absurd (⊎_elim (λ e. cc) (λ e. cc) h.other)
@@ -146,6 +241,7 @@ alone_after {S} {T} {U} store a b c result why is on one other = by why is (subs
     by refusal.Store same h = record { calls = calls; fault = λ e. rose_before on.later (one.fault same); other = inl refl }
     by refusal.OutOfMemory same h = record { calls = calls; fault = λ e. absurd (cc); other = inr refl }
     by (refusal.Objected w) same h = absurd (⊎_elim (λ e. cc) (λ e. cc) h)
+    by (refusal.Found f) same h = absurd (⊎_elim (λ e. cc) (λ e. cc) h)
     by (refusal.Spent x) same h = absurd (⊎_elim (λ e. cc) (λ e. cc) h)
     by (refusal.Broken x) same h = absurd (⊎_elim (λ e. cc) (λ e. cc) h)
     by (refusal.Repeated x) same h = absurd (⊎_elim (λ e. cc) (λ e. cc) h)

@@ -5,10 +5,11 @@ use Rattle.store_trait.specs.Stores.{CallsGoOn}
 use Rattle.store_trait.specs.Contents.{Content}
 use Rattle.store_laws.specs.Meaning.{meaning}
 use Rattle.store_laws.specs.Soundness.{IsSound}
+use Rattle.txn_audit.specs.Audits.{PassesAudit}
 use Rattle.txn_play.specs.Batches.{MayRun, WorksOnBatch, IsDoneWith, MayBegin, HasOutcome, StandsIn, LeavesRecords}
 use Rattle.txn_play.specs.Remains.{HasBegun, HasLeft, Holding, LeavesUnfinished, Stays}
 use Rattle.txn_play.specs.Progress.{RanBatch, HasRunBatch}
-use Rattle.txn_play.specs.Refusals.{IsOfRun}
+use Rattle.txn_play.specs.Refusals.{IsOfSteps}
 use Rattle.txn_play.specs.declared.refusal.Refusal.{Refusal}
 use Rattle.txn_play.specs.declared.refusal.Refusal.TheVariants as refusal
 use Rattle.store_laws.specs.View.{record_at, look, was_decided, state_passes}
@@ -44,14 +45,14 @@ unfolding look was_decided
 unchosen c id none = ap (state_passes was_decided_state) none
 
 pub ran_batch : {S : Type 0} (store : Ghosts S) (old now : S) (waiting : List Waiting) (run : Run) (states : List RecordState)
-    → MayRun (store.content old) waiting → store.trail old (store.calls old) ≡ store.content old → store.trail now (store.calls now) ≡ store.content now
+    → MayRun (store.content old) waiting → PassesAudit (store.content old) → store.trail old (store.calls old) ≡ store.content old → store.trail now (store.calls now) ≡ store.content now
     → run.mark ≡ store.calls old → run.base ≡ meaning (store.content old) → run.turns ≡ []
     → WorksOnBatch store old now [] run.order waiting → Uses (store.content old) (store.content now) (length waiting) (length waiting) 0 0 → IsDoneWith (store.content now) waiting states
     → HasRun (store.trail now) run.mark (store.calls now) run.base run.order
     → store.trail now run.mark ≡ store.content old
     → RanBatch (store.content old) (store.content now) waiting run states
-ran_batch store old now waiting run states may was is mark base turns works uses done has from = record {
-  opens = may.calm.sound;
+ran_batch store old now waiting run states may passes was is mark base turns works uses done has from = record {
+  opens = passes;
   step = works.step;
   calm = done.calm;
   base = base;
@@ -81,17 +82,19 @@ if_ok (Ok x) P Q h f = f x h
 if_ok (Err e) P Q h f = tt
 
 -- a batch that is on its way, as a refusal leaves it
-begun_left : (waiting : List Waiting) (trail : ℕ → Content) (old new : Holding) (why : Refusal) → IsOfRun why → HasBegun waiting trail old new → LeavesUnfinished new.content waiting why → HasLeft true waiting trail old new why
+begun_left : (waiting : List Waiting) (trail : ℕ → Content) (old new : Holding) (why : Refusal) → IsOfSteps why → HasBegun waiting trail old new → LeavesUnfinished new.content waiting why → HasLeft true waiting trail old new why
 begun_left waiting trail old new refusal.Store kind h un = inr (refl, h, un)
 begun_left waiting trail old new refusal.OutOfMemory kind h un = inr (refl, h)
 begun_left waiting trail old new (refusal.Spent e) kind h un = inr (refl, h, un)
 begun_left waiting trail old new (refusal.Broken e) kind h un = inr (refl, h, un)
 begun_left waiting trail old new (refusal.Repeated id) kind h un = inr (refl, h, un)
 begun_left waiting trail old new (refusal.Objected w) kind h un = elim kind [ ]
+begun_left waiting trail old new (refusal.Found f) kind h un = elim kind [ ]
 
 -- a refusal before it
 pub stays_left : (may_run : Bool) (waiting : List Waiting) (trail : ℕ → Content) (old new : Holding) (why : Refusal) → Stays old new → HasLeft may_run waiting trail old new why
 stays_left may_run waiting trail old new (refusal.Objected w) h = h
+stays_left may_run waiting trail old new (refusal.Found f) h = h
 stays_left may_run waiting trail old new refusal.Store h = inl h
 stays_left may_run waiting trail old new refusal.OutOfMemory h = inl h
 stays_left may_run waiting trail old new (refusal.Spent e) h = inl h
@@ -101,6 +104,7 @@ stays_left may_run waiting trail old new (refusal.Repeated id) h = inl h
 -- where a batch may be on its way, it may be where more is allowed
 pub left_more : (a b : Bool) (waiting : List Waiting) (trail : ℕ → Content) (old new : Holding) (why : Refusal) → (a ≡ true → b ≡ true) → HasLeft a waiting trail old new why → HasLeft b waiting trail old new why
 left_more a b waiting trail old new (refusal.Objected w) more h = h
+left_more a b waiting trail old new (refusal.Found f) more h = h
 left_more a b waiting trail old new refusal.Store more h = ⊎_elim inl (λ begun. inr (more begun.0, begun.1, begun.2)) h
 left_more a b waiting trail old new refusal.OutOfMemory more h = ⊎_elim inl (λ begun. inr (more begun.0, begun.1)) h
 left_more a b waiting trail old new (refusal.Spent e) more h = ⊎_elim inl (λ begun. inr (more begun.0, begun.1, begun.2)) h
@@ -111,7 +115,7 @@ left_more a b waiting trail old new (refusal.Repeated id) more h = ⊎_elim inl 
 module _ {S : Type 0} (store : Ghosts S) (old mid now : S) (waiting : List Waiting) (run : Run)
     (told : IsTrue store.tells) (present : (s : S) → store.trail s (store.calls s) ≡ store.content s)
     (may : MayRun (store.content old) waiting) (reads : OnlyReads store old mid) (first : CallsGoOn store old mid) (second : CallsGoOn store mid now)
-    (mark : run.mark ≡ store.calls mid) (base : run.base ≡ meaning (store.content mid)) (works : WorksOnBatch store mid now [] run.order waiting) where
+    (passes : PassesAudit (store.content mid)) (mark : run.mark ≡ store.calls mid) (base : run.base ≡ meaning (store.content mid)) (works : WorksOnBatch store mid now [] run.order waiting) where
   may_mid : MayRun (store.content mid) waiting
   may_mid = subst (λ (c : Content). MayRun c waiting) (sym reads.same) may
 
@@ -139,14 +143,14 @@ module _ {S : Type 0} (store : Ghosts S) (old mid now : S) (waiting : List Waiti
   batch_done before after states turns kept uses done = record {
     run = run;
     ran = subst (λ (c : Content). RanBatch c (store.content now) waiting run states) reads.same
-        (ran_batch store mid now waiting run states may_mid (present mid) (present now) mark base turns works uses done has still_there);
+        (ran_batch store mid now waiting run states may_mid passes (present mid) (present now) mark base turns works uses done has still_there);
     kept = kept;
     since = omega (arith, mark, first.counted);
     made = omega (arith, mark, second.counted);
   }
 
   pub batch_left : {T : Type 0} (result : Result T Refusal) (before after : List Run) → run.turns ≡ [] → after ≡ before ++ run ∷ [] → LeavesRecords (store.content now) [] run.order waiting → Uses (store.content mid) (store.content now) (length waiting) (length waiting) 0 0
-      → IfErr result IsOfRun → IfErr result (LeavesUnfinished (store.content now) waiting)
+      → IfErr result IsOfSteps → IfErr result (LeavesUnfinished (store.content now) waiting)
       → IfErr result (HasLeft true waiting (store.trail now) (record { content = store.content old; calls = store.calls old; runs = before }) (record { content = store.content now; calls = store.calls now; runs = after }))
   batch_left (Ok x) before after turns kept records uses kind un = tt
   batch_left (Err why) before after turns kept records uses kind un = begun_left waiting (store.trail now) (record { content = store.content old; calls = store.calls old; runs = before }) (record { content = store.content now; calls = store.calls now; runs = after }) why kind (record {

@@ -44,6 +44,7 @@ module _ {S : Type 0} (store : Ghosts S) where
   caused_before first old new (refusal.Broken (step.RevnoSpent key)) chain h = h
   caused_before first old new (refusal.Broken (step.Lost token)) chain h = h
   caused_before first old new (refusal.Objected w) chain h = tt
+  caused_before first old new (refusal.Found f) chain h = tt
   caused_before first old new refusal.Store chain h = tt
   caused_before first old new refusal.OutOfMemory chain h = tt
 
@@ -66,6 +67,7 @@ module _ {S : Type 0} (store : Ghosts S) where
   caused_otherwise c old new (refusal.Broken error) reason unspent = elim reason [ ]
   caused_otherwise c old new (refusal.Repeated id) reason unspent = elim reason [ ]
   caused_otherwise c old new (refusal.Objected w) reason unspent = tt
+  caused_otherwise c old new (refusal.Found f) reason unspent = tt
   caused_otherwise c old new refusal.Store reason unspent = tt
   caused_otherwise c old new refusal.OutOfMemory reason unspent = tt
 
@@ -80,6 +82,7 @@ unspent c d n (refusal.Spent (step.Lost z)) s u last = elim last [ ]
 unspent c d n (refusal.Spent (step.Clash id at)) s u last = elim last [ ]
 unspent c d n (refusal.Spent step.OutOfMemory) s u last = elim last [ ]
 unspent c d n (refusal.Objected w) s u last = tt
+unspent c d n (refusal.Found f) s u last = tt
 unspent c d n refusal.Store s u last = tt
 unspent c d n refusal.OutOfMemory s u last = tt
 unspent c d n (refusal.Broken e) s u last = tt

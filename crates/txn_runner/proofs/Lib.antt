@@ -9,5 +9,4 @@ pub mod Deciding
 pub mod Submitting
 pub mod Numbers
 pub mod Answered
-pub mod Listed
 pub mod Unended

@@ -6,4 +6,3 @@ pub mod Causes
 pub mod Calm
 pub mod Built
 pub mod Numbers
-pub mod Listing

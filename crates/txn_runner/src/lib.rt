@@ -9,7 +9,6 @@
 mod assertions;
 mod built;
 mod calls;
-mod documents;
 mod error;
 mod settling;
 mod stage;
@@ -17,7 +16,6 @@ mod steps;
 mod waiting;
 
 pub use built::{is_built, only};
-pub use documents::list_documents;
 pub use error::StepError;
 pub use settling::settle;
 pub use stage::Stage;
