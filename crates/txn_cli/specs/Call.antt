@@ -11,12 +11,13 @@ use Rattle.txn_play.specs.Remains.{HasLeft, Holding, Stays}
 use Rattle.txn_play.specs.Progress.{Progress, holding_at, opening}
 use Rattle.txn_play.specs.Runs.{EachRun, IsFaithfulRun}
 use Rattle.txn_play.specs.declared.answer.Answer.{Answer}
+use Rattle.txn_play.specs.declared.finding.Finding.TheVariants as finding
 use Rattle.txn_play.specs.declared.refusal.Refusal.{Refusal}
 use Rattle.txn_play.specs.declared.run.Run.{Run}
 use Rattle.txn_cli.specs.Causes.{Circumstances, IsCaused, NoneSpent, circumstances, counts, told_script}
 use Rattle.txn_cli.specs.Faults.{refusal_in}
 use Rattle.txn_cli.specs.Output.{Writing, Wrote, WroteOrFailed, WrotePart, answer_text, answers_text, fault_text, prints, writing}
-use Rattle.txn_cli.specs.Script.{DoesNext, IsPlayed, Plays, Reached, Refuses, after_lines, next_may_run, next_of}
+use Rattle.txn_cli.specs.Script.{DoesNext, Finds, IsPlayed, Plays, Reached, Refuses, after_lines, next_may_run, next_of}
 use Rattle.txn_cli.specs.Words.{is_grammar}
 use Rattle.txn_cli.specs.declared.done.Done.{Done}
 use Rattle.txn_cli.specs.declared.fault.Fault.{Fault}
@@ -74,12 +75,15 @@ abbrev pub LeftIn : Bool → Progress → Held → Fault → Type 0
 LeftIn may_run p end fault.Output = ⊥
 LeftIn may_run p end why = LeftAs (refusal_in why) may_run p end
 
--- The refusal of a line names the next one, and the text by which it is refused there; bad words come
--- before any line. Where the input failed, no more than a part of the next line was taken: each line that
+-- The refusal of a line names the next one, and the text by which it is refused there; what an audit finds
+-- refuses what comes next where that audits; bad words come before any line. Where the input failed, no more than a part of the next line was taken: each line that
 -- came whole was done.
 abbrev pub IsOfNext : Taken → ℕ → Progress → Fault → Type 0
 IsOfNext taken n p (fault.Line number text) =
     (number ≡ n + 1) × Refuses (next_of n taken.script) p text
+IsOfNext taken n p (fault.Unsound rule at) =
+    Finds (next_of n taken.script) p (finding.Unsound rule at)
+IsOfNext taken n p fault.TooManyCells = Finds (next_of n taken.script) p finding.TooManyCells
 IsOfNext taken n p fault.Words = n ≡ 0
 IsOfNext taken n p fault.Input = IsPartTaken (after_lines n taken.script) taken.untaken
 IsOfNext taken n p _ = Unit {0}

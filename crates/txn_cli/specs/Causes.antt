@@ -4,8 +4,10 @@ use Rattle.store_trait.specs.Calls.{Rose}
 use Rattle.store_trait.specs.declared.store.Store.{Ghosts}
 use Rattle.txn_io.specs.declared.source.Source as source
 use Rattle.txn_play.specs.Refusals.{HasCause, HasReason, IsUnspent}
+use Rattle.txn_play.specs.declared.finding.Finding.{Finding}
+use Rattle.txn_play.specs.declared.finding.Finding.TheVariants as finding
 use Rattle.txn_cli.specs.Faults.{refusal_in}
-use Rattle.txn_cli.specs.Script.{HasLines, MayRefuse, next_of}
+use Rattle.txn_cli.specs.Script.{HasLines, MayFind, MayRefuse, next_of}
 use Rattle.txn_cli.specs.declared.fault.Fault.{Fault}
 use Rattle.txn_cli.specs.declared.fault.Fault.TheVariants as fault
 
@@ -57,12 +59,20 @@ pub record MayBeRefused (number : ℕ) (text script : List ℕ) : Type 0 where
   pub there : HasLines count script
   pub may : MayRefuse (next_of count script) text
 
+-- what an audit finds may refuse a line, or the end behind the last one
+pub record MayBeFound (found : Finding) (script : List ℕ) : Type 0 where
+  pub count : ℕ
+  pub there : HasLines count script
+  pub may : MayFind (next_of count script) found
+
 -- The words are out of the grammar; a line may be refused so, whatever the store holds; the store, the
 -- input or the output failed in this call. Over any store its last answer shows why nonces or numbers are
 -- used up, or what broke.
 abbrev pub IsShown : {S : Type 0} → Ghosts S → Circumstances S → Fault → Type 0
 IsShown store call fault.Words = call.in_grammar ≡ false
 IsShown store call (fault.Line number text) = IfSome call.script (MayBeRefused number text)
+IsShown store call (fault.Unsound rule at) = IfSome call.script (MayBeFound (finding.Unsound rule at))
+IsShown store call fault.TooManyCells = IfSome call.script (MayBeFound finding.TooManyCells)
 IsShown store call fault.Store = Rose (store.faults call.old) (store.faults call.new)
 IsShown store call fault.Input = HasRisen call.input
 IsShown store call fault.Output = HasRisen call.output

@@ -6,8 +6,8 @@ use Rattle.txn_script.specs.Statements.{line_in}
 use Rattle.txn_script.specs.declared.statement.Statement.{Statement}
 use Rattle.txn_runner.specs.declared.waiting.Waiting.{Waiting}
 use Rattle.txn_play.specs.Remains.{HasLeft, Stays}
-use Rattle.txn_play.specs.Progress.{Progress, Does, RunsItself, objection_at_end, runs_batch}
-use Rattle.txn_play.specs.Sessions.{IsAgainst, IsCaused, IsKept, at, holding}
+use Rattle.txn_play.specs.Progress.{Progress, Does, RunsItself, is_nothing, objection_at_end, runs_batch}
+use Rattle.txn_play.specs.Sessions.{IsAgainst, IsCaused, IsFoundFor, IsKept, at, holding}
 use Rattle.txn_play.specs.declared.answer.Answer.{Answer}
 use Rattle.txn_play.specs.declared.answer.Answer.TheVariants.{Nothing}
 use Rattle.txn_play.specs.declared.objection.Objection.{Objection}
@@ -17,7 +17,7 @@ use Rattle.txn_play.specs.declared.session.Session.{Session}
 use Rattle.txn_cli.specs.Causes.{Counts, FailsOnly}
 use Rattle.txn_cli.specs.Faults.{objection_text, refusal_in_stop}
 use Rattle.txn_cli.specs.Output.{Writing, Wrote, WrotePart, answer_text, prints}
-use Rattle.txn_cli.specs.Script.{MayRefuseAs, PlaysAs, RefusedAs, Stated, line_lets_run, line_may_run}
+use Rattle.txn_cli.specs.Script.{FoundAt, MayFindAs, MayRefuseAs, PlaysAs, RefusedAs, Stated, line_lets_run, line_may_run}
 use Rattle.txn_cli.specs.declared.stop.Stop.{Stop}
 use Rattle.txn_cli.specs.declared.stop.Stop.TheVariants as stop
 
@@ -92,16 +92,18 @@ LeftBy store deed old new w (stop.Refused refusal.OutOfMemory) =
 LeftBy store deed old new w (stop.Refused why) = Left store deed old new why × Wrote w []
 LeftBy store deed old new w stop.Output = HasDoneCut store deed old new w
 
--- a line is refused by the text of what stopped it, where that has one
+-- a line is refused by the text of what stopped it, where that has one, or by what an audit finds
 abbrev pub RefusedBy : Stated → Progress → Stop → Type 0
 RefusedBy stated p (stop.Misread why) = RefusedAs stated p (script_text why)
 RefusedBy stated p (stop.Refused (refusal.Objected why)) = RefusedAs stated p (objection_text why)
+RefusedBy stated p (stop.Refused (refusal.Found found)) = FoundAt stated p found
 RefusedBy stated p _ = Unit {0}
 
 -- the same, whatever the store holds
 abbrev pub MayStop : Stated → Stop → Type 0
 MayStop stated (stop.Misread why) = MayRefuseAs stated (script_text why)
 MayStop stated (stop.Refused (refusal.Objected why)) = MayRefuseAs stated (objection_text why)
+MayStop stated (stop.Refused (refusal.Found found)) = MayFindAs stated found
 MayStop stated _ = Unit {0}
 
 -- what stops a statement is none of its line's faults
@@ -115,9 +117,16 @@ StoppedFor against (stop.Misread why) = ⊥
 StoppedFor against (stop.Refused why) = IsAgainst against why
 StoppedFor against stop.Output = Unit {0}
 
--- what stops a batch that a statement lets run first
+-- what stops a statement that was read is found only where that may be refused so
+abbrev pub StoppedByFinding : Statement → Stop → Type 0
+StoppedByFinding s why = IfSome (refusal_in_stop why) (IsFoundFor s)
+
+-- what stops a batch that waits, and one that a statement lets run first
+abbrev pub StoppedWaiting : Progress → Stop → Type 0
+StoppedWaiting p why = (is_nothing p.waiting ≡ false) × StoppedFor (objection_at_end p) why
+
 abbrev pub StoppedFirst : Bool → Progress → Stop → Type 0
-StoppedFirst lets p why = (lets ≡ true) × StoppedFor (objection_at_end p) why
+StoppedFirst lets p why = (lets ≡ true) × StoppedWaiting p why
 
 -- the session between the two steps of a line, with what was written by then
 pub record Between (S : Type 0) : Type 0 where

@@ -1,5 +1,5 @@
 -- A script, line by line: which lines were done, and which is refused.
-use Rattle.std.specs.Prelude.{◌≡◌, ◌≢◌, ◌≤◌, ℕ, zero, suc, ◌+◌, Bool, true, false, List, [], ◌∷◌, ◌++◌, Option, Some, None, Result, Ok, Err, codes, if◌then◌else◌}
+use Rattle.std.specs.Prelude.{◌≡◌, ◌≢◌, ◌≤◌, ℕ, zero, suc, ◌+◌, Bool, true, false, List, [], ◌∷◌, ◌++◌, ◌||◌, Option, Some, None, Result, Ok, Err, codes, if◌then◌else◌}
 use Rattle.store_trait.specs.Contents.{Content}
 use Rattle.txn_io.specs.Lines.{after_line, line_cost, reading}
 use Rattle.txn_io.specs.declared.lines.LineFault.{LineFault}
@@ -8,9 +8,10 @@ use Rattle.txn_script.specs.Faults.{fault_text as script_text}
 use Rattle.txn_script.specs.Statements.{line_in}
 use Rattle.txn_script.specs.declared.fault.ScriptFault.{ScriptFault}
 use Rattle.txn_script.specs.declared.statement.Statement.{Statement}
-use Rattle.txn_play.specs.Progress.{Progress, Does, RunsItself, lets_run, objection_at_end, objection_to, runs_batch}
+use Rattle.txn_play.specs.Progress.{Progress, Does, RunsItself, is_nothing, lets_run, may_find, may_find_at, objection_at_end, objection_to, runs_batch}
 use Rattle.txn_play.specs.declared.answer.Answer.{Answer}
 use Rattle.txn_play.specs.declared.answer.Answer.TheVariants.{Nothing}
+use Rattle.txn_play.specs.declared.finding.Finding.{Finding}
 use Rattle.txn_play.specs.declared.objection.Objection.{Objection}
 use Rattle.txn_cli.specs.Faults.{objection_text}
 
@@ -121,6 +122,27 @@ Refuses (Err _) p text = ⊥
 pub record IsObjection (text : List ℕ) : Type 0 where
   pub why : Objection
   pub is : text ≡ objection_text why
+
+-- what an audit finds may refuse a line, for what it states or for a batch that it lets run first
+abbrev pub FoundAt : Stated → Progress → Finding → Type 0
+FoundAt (Ok (Some s)) p found = may_find_at p s found ≡ true
+FoundAt _ p found = ⊥
+
+-- the same of what comes next; at the end it is a batch that waits
+abbrev pub Finds : Result (Option (List ℕ)) LineFault → Progress → Finding → Type 0
+Finds (Ok (Some line)) p found = FoundAt (line_in line) p found
+Finds (Ok None) p found = is_nothing p.waiting ≡ false
+Finds (Err _) p found = ⊥
+
+-- the same, whatever waits
+abbrev pub MayFindAs : Stated → Finding → Type 0
+MayFindAs (Ok (Some s)) found = (lets_run s || may_find s found) ≡ true
+MayFindAs _ found = ⊥
+
+abbrev pub MayFind : Result (Option (List ℕ)) LineFault → Finding → Type 0
+MayFind (Ok (Some line)) found = MayFindAs (line_in line) found
+MayFind (Ok None) found = Unit {0}
+MayFind (Err _) found = ⊥
 
 -- By what texts a line may be refused, and what comes next, whatever the store holds. At the end it is a
 -- batch that isn't run.

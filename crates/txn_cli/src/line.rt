@@ -2,9 +2,9 @@
 
 ghost use Rattle.std.specs.Prelude.{◌≡◌, [], true, IsTrue, OnOk, IfErr};
 ghost use Rattle.txn_cli.specs.Causes.{counts};
-ghost use Rattle.txn_cli.specs.Line.{HasDone, HasDoneLine, HasStoppedLine, IsKeptLine, IsOfStatement, LeftBy, MayStop, RunsFirst, RunsWaiting, StoppedFirst, StoppedFor, performing, running, running_first};
+ghost use Rattle.txn_cli.specs.Line.{HasDone, HasDoneLine, HasStoppedLine, IsKeptLine, IsOfStatement, LeftBy, MayStop, RunsFirst, RunsWaiting, StoppedByFinding, StoppedFirst, StoppedFor, StoppedWaiting, performing, running, running_first};
 ghost use Rattle.txn_cli.specs.Output.{writing};
-ghost use Rattle.txn_play.specs.Progress.{Does, lets_run, objection_at_end, objection_to};
+ghost use Rattle.txn_play.specs.Progress.{Does, lets_run, objection_to};
 ghost use Rattle.txn_play.specs.Sessions.{Stands, at};
 ghost use Rattle.txn_script.specs.Statements.{line_in};
 
@@ -84,7 +84,7 @@ pub fn run_waiting<S: Store, O: Sink>(
     ensures left { IsTrue S.tells → IfErr result (LeftBy S.Store running
         session.old session.new (writing O.Sink output.old output.new)) }
     ensures cleared { OnOk result (session.new.batch ≡ []) }
-    ensures against { IfErr result (StoppedFor (objection_at_end (at S.Store session.old))) }
+    ensures against { IfErr result (StoppedWaiting (at S.Store session.old)) }
     ensures kept { IsKeptLine S.Store session.old session.new
         (counts (O.faults output.old) (O.faults output.new)) result }
 {
@@ -110,6 +110,7 @@ fn play_statement<S: Store, O: Sink>(
         session.old session.new (writing O.Sink output.old output.new)) }
     ensures against { IsTrue S.tells → IfErr result
         (StoppedFor (objection_to (at S.Store session.old) statement)) }
+    ensures found { IfErr result (StoppedByFinding statement) }
     ensures read { IfErr result IsOfStatement }
     ensures kept { IsKeptLine S.Store session.old session.new
         (counts (O.faults output.old) (O.faults output.new)) result }

@@ -33,6 +33,7 @@ use Rattle.txn_play.specs.declared.answer.Answer.{Answer}
 use Rattle.txn_play.specs.declared.answer.Answer.TheVariants as answer
 use Rattle.txn_play.specs.declared.answer.RecordState.{RecordState}
 use Rattle.txn_play.specs.declared.finding.Finding.{Finding}
+use Rattle.txn_play.specs.declared.finding.Finding.TheVariants as finding
 use Rattle.txn_play.specs.declared.objection.Objection.{Objection}
 use Rattle.txn_play.specs.declared.objection.Objection.TheVariants as objection
 use Rattle.txn_play.specs.declared.run.Run.{Run}
@@ -144,6 +145,19 @@ objection_at_end p = if is_nothing p.waiting then None else unless_alone p
 abbrev pub objection_to : Progress → Statement → Option Objection
 objection_to p s =
     if lets_run s && not (is_nothing p.waiting) then objection_at_end p else against p s
+
+-- Whether a statement may be refused by what an audit finds: where it runs a batch or shows documents by
+-- anything, an export by too many cells alone.
+abbrev pub may_find : Statement → Finding → Bool
+may_find (statement.Go plan) found = true
+may_find statement.Show found = true
+may_find statement.Export finding.TooManyCells = true
+may_find _ found = false
+
+-- the same where it stands; a batch that it lets run first is refused by anything
+abbrev pub may_find_at : Progress → Statement → Finding → Bool
+may_find_at p s found =
+    if lets_run s && not (is_nothing p.waiting) then true else may_find s found
 
 -- ---- what a statement does
 

@@ -1,5 +1,5 @@
 -- A script as it is played: what holds between two statements, and what each call for one keeps.
-use Rattle.std.specs.Prelude.{◌≡◌, Bool, false, [], length, Option, Some, Result, OnOk, IfErr, IfOk, IsTrue}
+use Rattle.std.specs.Prelude.{◌≡◌, Bool, true, false, [], length, Option, Some, Result, OnOk, IfErr, IfOk, IsTrue}
 use Rattle.store_trait.specs.Calls.{Rose}
 use Rattle.store_trait.specs.Stores.{CallsGoOn}
 use Rattle.store_trait.specs.declared.store.Store.{Ghosts}
@@ -7,7 +7,7 @@ use Rattle.txn_runner.specs.Numbers.{Suffices}
 use Rattle.txn_play.specs.Batches.{MayRun}
 use Rattle.txn_play.specs.Remains.{HasLeft, Holding}
 use Rattle.txn_script.specs.declared.statement.Statement.{Statement}
-use Rattle.txn_play.specs.Progress.{Does, Progress, holding_at, objection_to, runs_batch}
+use Rattle.txn_play.specs.Progress.{Does, Progress, holding_at, may_find, objection_to, runs_batch}
 use Rattle.txn_play.specs.Refusals.{HasCause, HasReason, IsUnspent}
 use Rattle.txn_play.specs.Runs.{RunsGoOn}
 use Rattle.txn_play.specs.declared.answer.Answer.{Answer}
@@ -75,6 +75,11 @@ abbrev pub IsAgainst : Option Objection → Refusal → Type 0
 IsAgainst against (refusal.Objected why) = against ≡ Some why
 IsAgainst against _ = Unit {0}
 
+-- a refusal by what an audit finds is of a statement that may be refused so
+abbrev pub IsFoundFor : Statement → Refusal → Type 0
+IsFoundFor s (refusal.Found found) = may_find s found ≡ true
+IsFoundFor s _ = Unit {0}
+
 -- who waits stays, and so does what is known of the statements so far
 pub record KeepsRest {S : Type 0} (old new : Session S) : Type 0 where
   pub batch : new.batch ≡ old.batch
@@ -95,5 +100,6 @@ pub record HasAttended {S : Type 0} (store : Ghosts S) (s : Statement) (old new 
     (result : Result Answer Refusal) : Type 0 where
   pub done : IsTrue store.tells → IfOk result (Does s (at store old) (at store new))
   pub against : IsTrue store.tells → IfErr result (IsAgainst (objection_to (at store old) s))
+  pub found : IfErr result (IsFoundFor s)
   pub refused : IfErr result (IsRefused store (runs_batch s) old new)
   pub kept : IsKept store old new result

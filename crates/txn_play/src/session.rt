@@ -5,7 +5,7 @@ ghost use Rattle.std.specs.FinMap.{insert};
 ghost use Rattle.store_trait.specs.Stores.{CallsGoOn};
 ghost use Rattle.txn_play.specs.Sessions.{HasAttended};
 ghost use Rattle.txn_play.specs.Progress.{against_placing, is_default, lets_run, objection_to, runs_batch, unless_alone, Does, RunsBatch};
-ghost use Rattle.txn_play.specs.Sessions.{IsAgainst, IsCaused, IsKept, IsRefused, Stands, at};
+ghost use Rattle.txn_play.specs.Sessions.{IsAgainst, IsCaused, IsFoundFor, IsKept, IsRefused, Stands, at};
 ghost use Rattle.txn_script.specs.declared.statement.Statement.TheVariants as statement;
 
 use crate::admission::{against_record, place, placed_doc};
@@ -64,6 +64,7 @@ impl<S: Store> Session<S> {
             (Does statement (at S.Store self.old) (at S.Store self.new)) }
         ensures against { IsTrue S.tells → IfErr result
             (IsAgainst (objection_to (at S.Store self.old) statement)) }
+        ensures found { IfErr result (IsFoundFor statement) }
         ensures refused { IfErr result
             (IsRefused S.Store (runs_batch statement) self.old self.new) }
         ensures kept { IsKept S.Store self.old self.new result }
