@@ -3,7 +3,7 @@ use Rattle.std.specs.Prelude.{◌≡◌, ◌≤◌, ◌+◌, ℕ, Bool, false, L
 use Rattle.store_trait.specs.Calls.{Rose}
 use Rattle.store_trait.specs.declared.store.Store.{Ghosts}
 use Rattle.txn_io.specs.declared.source.Source as source
-use Rattle.txn_play.specs.Refusals.{HasCause, HasReason, IsUnspent}
+use Rattle.txn_play.specs.Refusals.{HasCause, HasReason, IsUnspent, WasFound}
 use Rattle.txn_play.specs.declared.finding.Finding.{Finding}
 use Rattle.txn_play.specs.declared.finding.Finding.TheVariants as finding
 use Rattle.txn_cli.specs.Faults.{refusal_in}
@@ -65,14 +65,19 @@ pub record MayBeFound (found : Finding) (script : List ℕ) : Type 0 where
   pub there : HasLines count script
   pub may : MayFind (next_of count script) found
 
+-- an audit found it, by what the store answered, and a line of the script may be refused so
+abbrev pub IsFoundIn : {S : Type 0} → Ghosts S → Circumstances S → Finding → Type 0
+IsFoundIn store call found =
+    WasFound store call.old call.new found × IfSome call.script (MayBeFound found)
+
 -- The words are out of the grammar; a line may be refused so, whatever the store holds; the store, the
 -- input or the output failed in this call. Over any store its last answer shows why nonces or numbers are
 -- used up, or what broke.
 abbrev pub IsShown : {S : Type 0} → Ghosts S → Circumstances S → Fault → Type 0
 IsShown store call fault.Words = call.in_grammar ≡ false
 IsShown store call (fault.Line number text) = IfSome call.script (MayBeRefused number text)
-IsShown store call (fault.Unsound rule at) = IfSome call.script (MayBeFound (finding.Unsound rule at))
-IsShown store call fault.TooManyCells = IfSome call.script (MayBeFound finding.TooManyCells)
+IsShown store call (fault.Unsound rule at) = IsFoundIn store call (finding.Unsound rule at)
+IsShown store call fault.TooManyCells = IsFoundIn store call finding.TooManyCells
 IsShown store call fault.Store = Rose (store.faults call.old) (store.faults call.new)
 IsShown store call fault.Input = HasRisen call.input
 IsShown store call fault.Output = HasRisen call.output

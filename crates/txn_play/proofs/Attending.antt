@@ -5,6 +5,7 @@ use Rattle.std.specs.Prelude.{IfOk, OnOk, OnErr}
 use Rattle.doc_value.specs.declared.value.Value.{Value}
 use Rattle.txn_key.specs.declared.key.Key.{Key}
 use Rattle.store_trait.specs.Calls.{Rose}
+use Rattle.store_trait.specs.Exchanges.{Exchanged}
 use Rattle.store_trait.specs.Stores.{CallsGoOn, OneCall}
 use Rattle.store_trait.specs.declared.cell.Cell.{Cell}
 use Rattle.store_trait.specs.declared.name.Name.{Name}
@@ -22,7 +23,7 @@ use Rattle.txn_script.specs.declared.statement.Statement.{Statement}
 use Rattle.txn_script.specs.declared.statement.Statement.TheVariants as statement
 use Rattle.txn_play.specs.Batches.{waits}
 use Rattle.txn_play.specs.Progress.{Performs, Progress, against, against_placing, against_waiting, is_nothing, may_settle, most_waiting, lets_run, objection_at_end, objection_to, placed_doc, runs_batch, unless_alone}
-use Rattle.txn_play.specs.Readings.{HasFound, IsOfReading, ReadsAlone}
+use Rattle.txn_play.specs.Readings.{HasFound, IsOfReading, IsShownFor, ReadsAlone}
 use Rattle.txn_play.specs.Refusals.{CallsAlone, HasCause, HasReason, IsNoObjection, IsUnspent, refusal_of_store}
 use Rattle.txn_play.specs.Remains.{HasLeft, Stays}
 use Rattle.txn_play.specs.Runs.{RunsGoOn}
@@ -134,14 +135,14 @@ read_unspent (refusal.Spent e) kind = elim kind [ ]
 read_unspent (refusal.Broken e) kind = elim kind [ ]
 read_unspent (refusal.Repeated id) kind = elim kind [ ]
 
-read_cause : {S : Type 0} (store : Ghosts S) (old new : S) (why : Refusal) → IsOfReading why → HasCause store old new why
-read_cause store old new (refusal.Found f) kind = tt
-read_cause store old new refusal.Store kind = tt
-read_cause store old new refusal.OutOfMemory kind = tt
-read_cause store old new (refusal.Objected w) kind = elim kind [ ]
-read_cause store old new (refusal.Spent e) kind = elim kind [ ]
-read_cause store old new (refusal.Broken e) kind = elim kind [ ]
-read_cause store old new (refusal.Repeated id) kind = elim kind [ ]
+read_cause : {S : Type 0} (store : Ghosts S) (old new : S) (why : Refusal) → IsOfReading why → IsShownFor store old new why → HasCause store old new why
+read_cause store old new (refusal.Found f) kind h = record { before = old; since = Exchanged.Nothing old; shows = h }
+read_cause store old new refusal.Store kind h = tt
+read_cause store old new refusal.OutOfMemory kind h = tt
+read_cause store old new (refusal.Objected w) kind h = elim kind [ ]
+read_cause store old new (refusal.Spent e) kind h = elim kind [ ]
+read_cause store old new (refusal.Broken e) kind h = elim kind [ ]
+read_cause store old new (refusal.Repeated id) kind h = elim kind [ ]
 
 module _ {S T : Type 0} (store : Ghosts S) (old new : S) (why : Refusal) (h : ReadsAlone {T = T} store old new (Err why)) where
   -- how reading a whole store is refused
@@ -152,7 +153,7 @@ module _ {S T : Type 0} (store : Ghosts S) (old new : S) (why : Refusal) (h : Re
   reading_unspent = read_unspent why h.kind
 
   pub reading_cause : HasCause store old new why
-  reading_cause = read_cause store old new why h.kind
+  reading_cause = read_cause store old new why h.kind h.shown
 
 -- a statement that reads a whole store is refused so
 pub reading_refused : {S T : Type 0} (store : Ghosts S) (s : Statement) (old new : Session S) (why : Refusal) → Stands store old → ReadsAlone {T = T} store old.store new.store (Err why)

@@ -44,7 +44,8 @@ module _ {S : Type 0} (store : Ghosts S) where
   caused_before first old new (refusal.Broken (step.RevnoSpent key)) chain h = h
   caused_before first old new (refusal.Broken (step.Lost token)) chain h = h
   caused_before first old new (refusal.Objected w) chain h = tt
-  caused_before first old new (refusal.Found f) chain h = tt
+  caused_before first old new (refusal.Found f) chain h =
+      record { before = h.before; since = joined store first old h.before chain h.since; shows = h.shows }
   caused_before first old new refusal.Store chain h = tt
   caused_before first old new refusal.OutOfMemory chain h = tt
 
@@ -60,16 +61,6 @@ module _ {S : Type 0} (store : Ghosts S) where
   caused_step old new id (step.RevnoSpent key) h = h
   caused_step old new id (step.Lost token) h = h
   caused_step old new id (step.Clash who at) h = subst (λ (i : TxnId). LastShows store old new (ShowsClash i at)) (sym h.0) h.1
-
-  -- a refusal that the store's answers have no part in
-  pub caused_otherwise : (c : Content) (old new : S) (why : Refusal) → HasReason c why → IsUnspent why → HasCause store old new why
-  caused_otherwise c old new (refusal.Spent error) reason unspent = elim unspent [ ]
-  caused_otherwise c old new (refusal.Broken error) reason unspent = elim reason [ ]
-  caused_otherwise c old new (refusal.Repeated id) reason unspent = elim reason [ ]
-  caused_otherwise c old new (refusal.Objected w) reason unspent = tt
-  caused_otherwise c old new (refusal.Found f) reason unspent = tt
-  caused_otherwise c old new refusal.Store reason unspent = tt
-  caused_otherwise c old new refusal.OutOfMemory reason unspent = tt
 
 -- ---- where nonces and numbers suffice, none is wanting
 

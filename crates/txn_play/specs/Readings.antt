@@ -8,8 +8,9 @@ use Rattle.store_trait.specs.Stores.{CallsGoOn}
 use Rattle.store_trait.specs.declared.store.Store.{Ghosts}
 use Rattle.store_laws.specs.Meaning.{meaning}
 use Rattle.store_laws.specs.Reads.{OnlyReads}
-use Rattle.txn_audit.specs.Audits.{PassesAudit}
+use Rattle.txn_audit.specs.Audits.{PassesAudit, ShowsFlaw}
 use Rattle.txn_audit.specs.Flaws.{IsFirstBroken}
+use Rattle.txn_audit.specs.Reading.{ListsMany}
 use Rattle.txn_play.specs.declared.finding.Finding.{Finding}
 use Rattle.txn_play.specs.declared.finding.Finding.TheVariants as finding
 use Rattle.txn_play.specs.declared.refusal.Refusal.{Refusal}
@@ -42,6 +43,15 @@ abbrev pub HasFound : Content → Refusal → Type 0
 HasFound c (refusal.Found found) = IsFound c found
 HasFound c _ = Unit {0}
 
+-- over any store: it is so of the cells that these calls listed, and no others were made
+abbrev pub ShowsFinding : {S : Type 0} → Ghosts S → S → S → Finding → Type 0
+ShowsFinding store old new (finding.Unsound rule at) = ShowsFlaw store old new rule at
+ShowsFinding store old new finding.TooManyCells = ListsMany store old new
+
+abbrev pub IsShownFor : {S : Type 0} → Ghosts S → S → S → Refusal → Type 0
+IsShownFor store old new (refusal.Found found) = ShowsFinding store old new found
+IsShownFor store old new _ = Unit {0}
+
 -- Reading a whole store changes nothing, and is refused for such a cause.
 pub record ReadsAlone {S T : Type 0} (store : Ghosts S) (old new : S) (result : Result T Refusal)
     : Type 0 where
@@ -50,3 +60,4 @@ pub record ReadsAlone {S T : Type 0} (store : Ghosts S) (old new : S) (result : 
   pub fault : IsErrOf result refusal.Store → Rose (store.faults old) (store.faults new)
   pub kind : IfErr result IsOfReading
   pub found : IsTrue store.tells → IfErr result (HasFound (store.content old))
+  pub shown : IfErr result (IsShownFor store old new)

@@ -3,6 +3,7 @@ use Rattle.std.specs.Prelude.{◌≡◌, ◌≤◌, ◌⊎◌, Err, IsErrOf, OnE
 use Rattle.store_trait.specs.Calls.{Rose}
 use Rattle.store_trait.specs.Contents.{Content}
 use Rattle.store_trait.specs.Edits.{nonce_limit}
+use Rattle.store_trait.specs.Exchanges.{Exchanged}
 use Rattle.store_trait.specs.Stores.{CallsGoOn}
 use Rattle.store_trait.specs.declared.store.Store.{Ghosts}
 use Rattle.store_trait.specs.declared.store.StoreError.{StoreError}
@@ -14,7 +15,8 @@ use Rattle.txn_runner.specs.Causes.{LastShows, ShowsClash, ShowsNoNonce, ShowsRe
 use Rattle.txn_runner.specs.Settling.{IsRevnoSpent}
 use Rattle.txn_runner.specs.declared.error.StepError.{StepError}
 use Rattle.txn_runner.specs.declared.error.StepError.TheVariants as step
-use Rattle.txn_play.specs.Readings.{HasFound}
+use Rattle.txn_play.specs.Readings.{HasFound, ShowsFinding}
+use Rattle.txn_play.specs.declared.finding.Finding.{Finding}
 use Rattle.txn_play.specs.declared.finding.Finding.TheVariants as finding
 use Rattle.txn_play.specs.declared.refusal.Refusal.{Refusal}
 use Rattle.txn_play.specs.declared.refusal.Refusal.TheVariants as refusal
@@ -71,9 +73,16 @@ HasReason c (refusal.Broken error) = ⊥
 HasReason c (refusal.Repeated id) = ⊥
 HasReason c _ = Unit {0}
 
--- Why nonces or numbers are used up, or a record was missing or another one than was written, over a
--- store that tells nothing too: the last call on it was made since then, and its answer shows it.
+-- what an audit finds is so of what the last calls on the store listed, all of them made since then
+pub record WasFound {S : Type 0} (store : Ghosts S) (old new : S) (found : Finding) : Type 0 where
+  pub before : S
+  pub since : Exchanged store old before
+  pub shows : ShowsFinding store before new found
+
+-- Why a statement is refused over a store that tells nothing too: the last call on it, or the last ones where an
+-- audit finds something, were made since then, and the answers show it.
 abbrev pub HasCause : {S : Type 0} → Ghosts S → S → S → Refusal → Type 0
+HasCause store old new (refusal.Found found) = WasFound store old new found
 HasCause store old new (refusal.Spent step.NoncesSpent) = LastShows store old new ShowsNoNonce
 HasCause store old new (refusal.Spent (step.RevnoSpent key)) = LastShows store old new (ShowsSpentRevno key)
 HasCause store old new (refusal.Spent _) = ⊥
