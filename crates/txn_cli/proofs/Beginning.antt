@@ -85,6 +85,7 @@ failed why = Err why
 pub look_fault : (why : Refusal) (f : Fault) → (failed why ≡ failed refusal.Store) ⊎ (failed why ≡ failed refusal.OutOfMemory) → OrShort (fault_of_stop 1 (stop.Refused why)) f → (f ≡ fault.Store) ⊎ (f ≡ fault.OutOfMemory)
 look_fault refusal.Store f h is = inl is
 look_fault refusal.OutOfMemory f h is = inr is
+look_fault (refusal.Found found) f h is = absurd (⊎_elim (λ e. cc) (λ e. cc) h)
 look_fault (refusal.Objected o) f h is = absurd (⊎_elim (λ e. cc) (λ e. cc) h)
 look_fault (refusal.Spent x) f h is = absurd (⊎_elim (λ e. cc) (λ e. cc) h)
 look_fault (refusal.Broken x) f h is = absurd (⊎_elim (λ e. cc) (λ e. cc) h)

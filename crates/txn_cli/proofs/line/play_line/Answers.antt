@@ -21,7 +21,7 @@ returns-in_ok-run_first-in-Ok-Some-clause-stopped g c = λ told.
     let then = c.play_statement.ensures in
     let read = sym (c.in-Ok-Some.ensures.exact (λ e. cc)) ∙ ap Ok c.in-Ok-Some.field-0-is in
     stops_then g.S.Store _ c.in-Ok-Some.statement read c.args.session.now c.play_statement.new.session _ (record { session = c.run_first.new.session; written = g.O.Sink.written c.run_first.new.output }) (first.done told) first.kept.session.calls.counted then.kept.session.calls.counted
-    ((then.kept.session.calls.trail told).before _ (omega arith) ∙ (first.kept.session.calls.trail told).here) c.play_statement.result (then.against told) (then.left told)
+    ((then.kept.session.calls.trail told).before _ (omega arith) ∙ (first.kept.session.calls.trail told).here) c.play_statement.result (then.against told) then.found (then.left told)
 
 pub returns-in_ok-run_first-in-Ok-Some-clause-kept : goal.returns-in_ok-run_first-in-Ok-Some-clause-kept
 returns-in_ok-run_first-in-Ok-Some-clause-kept g c =
