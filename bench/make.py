@@ -29,6 +29,17 @@ name them, in the order of names:
 
     bench/make.py cells N
 
+A store of at most N cells that is audited:
+
+    bench/make.py documents N   documents alone
+    bench/make.py settled N     settled records, as many documents whose queues name them, and the counter
+
+A store of N unsettled records that is audited. Each has an operation on a document that it shares with the one before
+it and on one that it shares with the one after it, and waits for the one before it. The first is applying:
+
+    bench/make.py chain N
+    bench/make.py ring N        the first waits for the last too
+
 Operations that are read and not run, since a line is refused behind them (status 3):
 
     bench/make.py operations N  one line of N operations, 16,000 bytes each (at most 1,000)
@@ -117,16 +128,57 @@ def long_operation(form, size):
 def cells(form, count):
     half = count // 2
     for n in range(half):
-        yield (
-            '{"cell":"record","is":{"_id":"%024x","n":"%08x","o":[%s],"r":[0],"s":6}}'
-            % (n + 1, n, setting(n, n))
-        )
+        yield settled_record(n)
     for n in range(count - half):
         yield (
             '{"c":"k","cell":"doc","is":{"_id":%d,"txn-queue":["%024x_%08x"],"txn-revno":1,"v":%d}}'
             % (n, n % half + 1, n % half, n)
         )
     yield '{"export":true}'
+
+
+def settled_record(n):
+    return '{"cell":"record","is":{"_id":"%024x","n":"%08x","o":[%s],"r":[0],"s":6}}' % (n + 1, n, setting(n, n))
+
+
+def audited(form, count):
+    if form == "documents":
+        for n in range(count):
+            yield document(n)
+    else:
+        half = (count - 1) // 2
+        for n in range(half):
+            yield settled_record(n)
+        for n in range(half):
+            yield queued_document(n, [n], '"txn-revno":1,')
+        yield counter_at(half)
+    yield '{"audit":true}'
+
+
+def counter_at(nonce):
+    return '{"cell":"nonce","is":{"next":%d}}' % nonce
+
+
+def queued_document(key, transactions, number):
+    tokens = ",".join('"%024x_%08x"' % (n + 1, n) for n in transactions)
+    return '{"c":"k","cell":"doc","is":{"_id":%d,"txn-queue":[%s],%s"v":0}}' % (key, tokens, number)
+
+
+def unsettled(form, count):
+    """The nth transaction waits for the one before it on the document n."""
+    is_ring = form == "ring"
+    for n in range(count):
+        after = (n + 1) % count if is_ring else n + 1
+        state = '"r":[0,0],"s":4' if n == 0 else '"s":2'
+        yield (
+            '{"cell":"record","is":{"_id":"%024x","n":"%08x","o":[%s,%s],%s}}'
+            % (n + 1, n, setting(n, n), setting(after, n), state)
+        )
+    for key in range(count if is_ring else count + 1):
+        before = [key - 1] if key > 0 else [count - 1] if is_ring else []
+        yield queued_document(key, before + ([key] if key < count else []), "")
+    yield counter_at(count)
+    yield '{"audit":true}'
 
 
 def many_operations(form, count):
@@ -146,6 +198,8 @@ def many_waiting(form, count):
 FORMS = dict.fromkeys(OPERATIONS, batches)
 FORMS.update(dict.fromkeys(["list", "text", "objects", "names"], long_line))
 FORMS.update(dict.fromkeys(["query", "update"], long_operation))
+FORMS.update(dict.fromkeys(["documents", "settled"], audited))
+FORMS.update(dict.fromkeys(["chain", "ring"], unsettled))
 FORMS.update({"cells": cells, "operations": many_operations, "waiting": many_waiting})
 
 

@@ -16,10 +16,14 @@ HERE = os.path.dirname(os.path.abspath(__file__))
 PROGRAM = os.path.join(HERE, "..", "crates", "txn_cli", "out", "txn_cli")
 COUNTS = [1_000, 2_000, 4_000, 8_000, 16_000, 32_000, 64_000]
 BYTES = [2**20, 2**21, 2**22, 2**23, 2**24]
+CELLS = [1_000, 10_000, 50_000, 100_000, 200_000]
+RECORDS = [250, 500, 1_000, 2_000, 4_000]
 SIZES = {
     "apart": COUNTS, "one": COUNTS, "applied": COUNTS, "mixed": COUNTS, "aborted": COUNTS,
     "list": BYTES, "text": BYTES, "objects": BYTES, "names": BYTES, "query": BYTES, "update": BYTES,
     "cells": [25_000, 50_000, 100_000, 200_000],
+    "documents": CELLS, "settled": CELLS,
+    "chain": RECORDS, "ring": RECORDS,
     "operations": [125, 250, 500, 1_000], "waiting": [1_250, 2_500, 5_000, 10_000],
 }
 # The status that a form's script ends with, where it isn't 0.

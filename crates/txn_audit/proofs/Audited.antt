@@ -14,7 +14,7 @@ use Rattle.txn_audit.specs.Audits.{Means, IsAudited, IsFlawOf, HasFault}
 use Rattle.txn_audit.specs.Bodies.{IsComplete, IsUnfit}
 use Rattle.txn_audit.specs.Checks.{HoldBelow}
 use Rattle.txn_audit.specs.Flaws.{IsFirstBroken}
-use Rattle.txn_audit.specs.Listing.{IsListing, content_of, entries_of}
+use Rattle.listed_cells.specs.Listing.{IsListing, content_of, entries_of}
 use Rattle.txn_audit.specs.declared.error.AuditError.{AuditError}
 use Rattle.txn_audit.specs.declared.error.AuditError.TheVariants as error
 use Rattle.txn_audit.proofs.CellRules.{holds_before, listed_there}

@@ -25,8 +25,8 @@ use Rattle.txn_record.specs.declared.state.State.TheVariants as state
 use Rattle.store_laws.specs.View.{look, record_at, applying, was_decided, state_passes}
 use Rattle.txn_audit.specs.Checks.{IsCellOf, HoldsAtPlace, FailsFirst, HoldBelow}
 use Rattle.txn_audit.specs.Flaws.{HoldsAtAll, IsFirstBroken, rule_of}
-use Rattle.txn_audit.specs.Listing.{IsListing, content_of, entries_of}
-use Rattle.txn_audit.proofs.Listings.{record_there, doc_there, stash_there, ordered_at, found_by, stands_at, held}
+use Rattle.listed_cells.specs.Listing.{IsListing, content_of, entries_of}
+use Rattle.listed_cells.proofs.Listings.{record_there, doc_there, stash_there, ordered_at, found_by, stands_at, held}
 
 -- of the cell under a name
 pub at_cell : (c : Content) (P : Cell → Type 0) (n : Name) (x : Cell) → get c n ≡ Some x → P x ↔ AtCell c P n

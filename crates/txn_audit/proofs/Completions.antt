@@ -38,7 +38,7 @@ use Rattle.store_laws.proofs.meanings.Runs.{same_docs, same_key-equal, same_key-
 use Rattle.store_laws.proofs.meanings.Splits.{all_there}
 use Rattle.store_laws.proofs.views.Orderly.{IsOrderly}
 use Rattle.txn_audit.specs.Bodies.{added, with_bodies, kept, held_body, applying_ops, pending_in, to_do, first_unfit, op_keys, keys_under, keys_in, IsComplete, IsUnfit}
-use Rattle.txn_audit.specs.Listing.{IsListing, content_of, entries_of}
+use Rattle.listed_cells.specs.Listing.{IsListing, content_of, entries_of}
 use Rattle.txn_audit.proofs.KeptBodies.{added_here, added_other}
 use Rattle.txn_audit.proofs.PendingFits.{AllBut, Stands, FirstUnfit, Agrees, FitsAt, orderly_but, all_fit, one_fails}
 

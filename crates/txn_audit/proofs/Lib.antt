@@ -1,7 +1,5 @@
-pub mod Listings
 pub mod ChainTests
-pub mod TokenLists
-pub mod TokenSets
+pub mod NonceTests
 pub mod MarkTests
 pub mod Readings
 pub mod OnChains
@@ -9,14 +7,5 @@ pub mod PendingFits
 pub mod KeptBodies
 pub mod PendingRuns
 pub mod Completions
-pub mod ChainEdges
-pub mod ChainMarks
-pub mod Rosters
-pub mod Lookups
-pub mod Listed
-pub mod Readiness
-pub mod WalkAll
-pub mod OrderMade
 pub mod CellRules
-pub mod Waiting
 pub mod Audited

@@ -43,7 +43,7 @@ use Rattle.store_laws.proofs.views.Orderly.{IsOrderly, numbered_nonce}
 use Rattle.store_laws.proofs.views.Queues.{in_left}
 use Rattle.store_laws.proofs.views.Views.{applying_at}
 use Rattle.txn_audit.specs.Bodies.{pending_in, first_unfit}
-use Rattle.txn_audit.specs.Listing.{entries_of}
+use Rattle.listed_cells.specs.Listing.{entries_of}
 
 -- ---- order from the rules but the last
 

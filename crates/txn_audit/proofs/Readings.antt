@@ -1,5 +1,5 @@
 -- Cells that are read one after another: those read so far, and those past the last of them, are all.
-use Rattle.std.proofs.Common.{◌≡◌, ◌≤◌, ◌<◌, ℕ, length, arith, Bool, true, false, ◌&&◌, cond, find, T, List, [], ◌∷◌, ◌++◌, map, Option, Some, None, IsTrue, Result, Err, refl, sym, ap, ◌∙◌, subst}
+use Rattle.std.proofs.Common.{◌≡◌, ◌≤◌, ◌<◌, ◌+◌, ℕ, length, arith, ⊎_elim, Bool, true, false, ◌&&◌, cond, find, T, List, [], ◌∷◌, ◌++◌, map, Option, Some, None, IsTrue, Result, Ok, Err, refl, sym, ap, ◌∙◌, subst}
 use Rattle.std.specs.FinMap.{entries, entries_sorted, is_sorted}
 use Rattle.std.specs.FinMap.Entries.{below_all}
 use Rattle.std.specs.List.{All, filter, list_all}
@@ -25,7 +25,8 @@ use Rattle.store_laws.proofs.trails.CallsMade.{call_after, rose_before}
 use Rattle.txn_audit.specs.declared.error.AuditError.{AuditError}
 use Rattle.txn_audit.specs.declared.error.AuditError.TheVariants as error
 use Rattle.store_laws.specs.Reads.{OnlyReads}
-use Rattle.txn_audit.specs.Listing.{entries_of, IsListing}
+use Rattle.listed_cells.specs.Listing.{entries_of, IsListing}
+use Rattle.txn_audit.specs.Reading.{ReadsOnce}
 
 abbrev cells_of : Content → List Named
 cells_of c = map named (entries c)
@@ -149,6 +150,13 @@ more_than c after cells found n so is many =
     let size : length (map named (entries c)) ≡ length (entries c) = length-map (entries c) named in
     omega (arith, all, size, length-append (cells ++ found ∷ []) (map named (past (Some found.name) (entries c))), length-append cells (found ∷ []), many)
 
+-- no more cells were read than the content has
+pub listed_few : (c : Content) (after : Option Name) (cells : List Named) → IsListOf c after cells → length cells ≤ length (entries c)
+listed_few c after cells so =
+    let all = ap length so in
+    let size : length (map named (entries c)) ≡ length (entries c) = length-map (entries c) named in
+    omega (arith, all, size, length-append cells (map named (past after (entries c))))
+
 -- ---- the order of what was read
 
 -- the cells rise, none stands where one past a name would, and each is of its name's kind
@@ -205,11 +213,34 @@ pub record HasRead {S : Type 0} (store : Ghosts S) (old now : S) (after : Option
   pub listed : IsTrue store.tells → IsListOf (store.content old) after cells
   pub reads : IsTrue store.tells → OnlyReads store old now
   pub go_on : CallsGoOn store old now
+  pub made : store.calls now ≡ store.calls old + length cells
   pub rises : Rises after cells
   pub few : length cells ≤ 200000
 
 pub few_more : (cells : List Named) (found : Named) → length cells < 200000 → length (cells ++ found ∷ []) ≤ 200000
 few_more cells found less = omega (arith, length-append cells (found ∷ []), less)
+
+-- one cell more was read, by one call more
+pub made_more : {S T E : Type 0} (store : Ghosts S) (old now new : S) (cells : List Named) (found : Named) (result : Result T E) (failed : E) (told : T) → result ≡ Ok told
+    → store.calls now ≡ store.calls old + length cells → OneCall store now new result failed → store.calls new ≡ store.calls old + length (cells ++ found ∷ [])
+made_more {S} {T} {E} store old now new cells found result failed told is made one =
+    let call : OneCall store now new (Ok told) failed = subst (λ (r : Result T E). OneCall store now new r failed) is one in
+    omega (arith, made, call.counted, length-append cells (found ∷ []))
+
+-- one call adds one at most
+one_at_most : {S T E : Type 0} (store : Ghosts S) (b c : S) (result : Result T E) (failed : E) → OneCall store b c result failed → store.calls c ≤ store.calls b + 1
+one_at_most store b c (Ok x) failed one = omega (arith, one.counted)
+one_at_most store b c (Err e) failed one = ⊎_elim (λ more. omega (arith, more)) (λ same. omega (arith, same)) one.counted_err
+
+-- one call for each cell that was read, and one more
+pub reads_once : {S T E : Type 0} (store : Ghosts S) (old now new : S) (after : Option Name) (cells : List Named) (result : Result T E) (failed : E)
+    → HasRead store old now after cells → OneCall store now new result failed → ReadsOnce store old new
+reads_once store old now new after cells result failed read one =
+    let last = one_at_most store now new result failed one in
+    record {
+      each = λ told. omega (arith, read.made, last, listed_few (store.content old) after cells (read.listed told));
+      most = omega (arith, read.made, read.few, last);
+    }
 
 -- calls on the store, and then one that was refused
 pub fault_after : {S T U : Type 0} (store : Ghosts S) (a b c : S) (result : Result T AuditError) (why : AuditError) → result ≡ Err why → CallsGoOn store a b

@@ -20,7 +20,7 @@ use Rattle.store_laws.specs.Held.{body_in}
 use Rattle.store_laws.specs.Meaning.{pending_of, meaning}
 use Rattle.store_laws.specs.Soundness.{Holds, Fits}
 use Rattle.store_laws.specs.View.{View, look}
-use Rattle.txn_audit.specs.Listing.{content_of}
+use Rattle.listed_cells.specs.Listing.{content_of}
 
 -- ---- bodies at keys
 

@@ -7,9 +7,9 @@ use Rattle.store_trait.specs.declared.cell.Named.{Named}
 use Rattle.store_laws.specs.Soundness.{Rule, Holds, rule_number}
 use Rattle.store_laws.specs.View.{counter}
 use Rattle.txn_audit.specs.Flaws.{HoldsAtAll, IsFirstBroken}
-use Rattle.txn_audit.specs.Listing.{content_of}
-use Rattle.txn_audit.specs.Standing.{AreQueues}
-use Rattle.txn_audit.specs.Orders.{IsOrder}
+use Rattle.listed_cells.specs.Listing.{content_of}
+use Rattle.listed_cells.specs.Standing.{AreQueues}
+use Rattle.listed_cells.specs.Orders.{IsOrder}
 use Rattle.txn_audit.specs.declared.checking.Facts.{Facts}
 use Rattle.txn_audit.specs.declared.checking.Flaw.{Flaw}
 

@@ -1,15 +1,11 @@
-pub mod Listing
 pub mod Flaws
-pub mod Tokens
 pub mod Entries
 pub mod Chains
 pub mod Marks
 pub mod Errors
+pub mod Reading
 pub mod Bodies
 pub mod Became
 pub mod Completion
-pub mod Orders
-pub mod Queues
-pub mod Standing
 pub mod Checks
 pub mod Audits

@@ -6,7 +6,8 @@ ghost use Rattle.store_trait.specs.Stores.{Calls};
 ghost use Rattle.store_trait.specs.declared.cell.Named.{Named as NamedValue};
 ghost use Rattle.txn_audit.specs.Audits.{IsAudited, HasFault, IsFlawOf, Means};
 ghost use Rattle.txn_audit.specs.Checks.{HoldBelow};
-ghost use Rattle.txn_audit.specs.Listing.{IsListing, content_of};
+ghost use Rattle.txn_audit.specs.Reading.{ReadsOnce};
+ghost use Rattle.listed_cells.specs.Listing.{IsListing, content_of};
 
 use crate::checking::{Facts, Flaw, first_flaw};
 use crate::completion::{Completion, complete};
@@ -33,6 +34,7 @@ pub fn audit<S: Store>(alloc: Global, store: &mut S) -> Result<Checked, AuditErr
     ensures sound { IsTrue S.tells → IfOk result (IsAudited (S.content store.old)) }
     ensures fault { IsTrue S.tells → IfErr result (HasFault (S.content store.old)) }
     ensures reads { IsTrue S.tells → OnlyReads S.Store store.old store.new }
+    ensures once { ReadsOnce S.Store store.old store.new }
     ensures kept { Calls S.Store store.old store.new result AuditError.StoreFault }
 {
     let cells = list_cells(alloc, store)?;

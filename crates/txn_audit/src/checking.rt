@@ -4,20 +4,17 @@ ghost use Rattle.std.specs.Prelude.{◌≡◌, ◌<◌, ◌≤◌, ◌↔◌, Is
 ghost use Rattle.store_laws.specs.Soundness.{Holds, AppliesReady, DecidedSealed, InQueues, OnChain};
 ghost use Rattle.txn_audit.specs.Checks.{AreFacts, IsCellOf, IsFirstPlace, IsFirstFlaw};
 ghost use Rattle.txn_audit.specs.Flaws.{rule_of};
-ghost use Rattle.txn_audit.specs.Listing.{IsListing, content_of};
+ghost use Rattle.listed_cells.specs.Listing.{IsListing, content_of};
 ghost use Rattle.txn_record.specs.States.{was_decided_state};
 ghost use Rattle.store_trait.specs.Names.{same_state};
 
-use crate::cells::counter;
 use crate::entries::has_sound_entry;
 use crate::marks::is_marked_soundly;
 use crate::nonces::are_nonces_below;
 use crate::numbers::is_numbered;
 use crate::on_chain::stands_on_chain;
-use crate::order::Order;
-use crate::standing::Standing;
-use crate::tokens::has_tokens;
 use doc_value::OutOfMemory;
+use listed_cells::{Order, Standing, counter, has_tokens};
 use std::alloc::Global;
 use store_trait::{Cell, Named};
 use txn_record::State;

@@ -7,14 +7,14 @@ ghost use Rattle.store_laws.specs.View.{look, epoch_at};
 ghost use Rattle.txn_audit.specs.Bodies.{kept, pending_in, applying_ops, to_do, first_unfit};
 ghost use Rattle.txn_audit.specs.Completion.{IsCompletion};
 ghost use Rattle.txn_audit.specs.Flaws.{HoldsAtAll};
-ghost use Rattle.txn_audit.specs.Listing.{IsListing, content_of};
+ghost use Rattle.listed_cells.specs.Listing.{IsListing, content_of};
 ghost use Rattle.txn_key.specs.Keys.{same_key};
 ghost use Rattle.txn_key.specs.Places.{keys_rise};
 ghost use Rattle.txn_record.specs.Effects.{effect, changes_fit};
 
 use crate::bodies::{bodies_at, documents, is_applying, keys_in, run};
-use crate::cells::number_at;
 use doc_value::{OutOfMemory, Value};
+use listed_cells::number_at;
 use sqlite_items::Items;
 use std::alloc::Global;
 use store_trait::{Cell, Named};

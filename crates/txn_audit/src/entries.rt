@@ -5,9 +5,9 @@ ghost use Rattle.std.specs.Option.{option_copied};
 ghost use Rattle.store_laws.specs.Soundness.{HasSoundEntry, IsSoundEntry};
 ghost use Rattle.store_laws.specs.View.{stash_at, doc_at};
 ghost use Rattle.txn_audit.specs.Entries.{IsSoundIfThere};
-ghost use Rattle.txn_audit.specs.Listing.{IsListing, content_of};
+ghost use Rattle.listed_cells.specs.Listing.{IsListing, content_of};
 
-use crate::cells::{doc_at, stash_at};
+use listed_cells::{doc_at, stash_at};
 use store_trait::{DocCell, Name, Named, StashCell};
 use txn_key::Key;
 

@@ -1,12 +1,11 @@
 //! Whether a store is sound, and what it means.
 //!
-//! `audit` reads a store, one cell a call, and answers its cells and the documents that it means where all
-//! ten rules hold at every name (`audit#sound`); else exactly the first rule that fails and the first name
-//! at which it does (`audit#fault`).
+//! `audit` reads a store, one cell a call (`audit#once`), and answers its cells and the documents that it
+//! means where all ten rules hold at every name (`audit#sound`); else exactly the first rule that fails and
+//! the first name at which it does (`audit#fault`).
 #![tactic(auto)]
 
 mod bodies;
-mod cells;
 mod checked;
 mod checking;
 mod completion;
@@ -16,12 +15,7 @@ mod marks;
 mod nonces;
 mod numbers;
 mod on_chain;
-mod order;
-mod queues;
 mod reading;
-mod standing;
-mod tokens;
-mod walks;
 
 pub use checked::{Checked, audit, check};
 pub use error::AuditError;

@@ -4,11 +4,11 @@ ghost use Rattle.std.specs.Prelude.{◌≡◌, ◌↔◌, IsTrue};
 ghost use Rattle.std.specs.Option.{option_copied};
 ghost use Rattle.store_laws.specs.Soundness.{IsMarkedSoundly, IsMarkOf};
 ghost use Rattle.store_laws.specs.View.{look, doc_at, stash_at};
-ghost use Rattle.txn_audit.specs.Listing.{IsListing, content_of};
+ghost use Rattle.listed_cells.specs.Listing.{IsListing, content_of};
 ghost use Rattle.txn_audit.specs.Marks.{doc_mark, stash_mark, is_marking, IsMarkIfOwner, MarksIn, IsMarkAt, IsAppliedAs, HasMarking, is_marked_by, some_mark};
 ghost use Rattle.txn_record.specs.declared.state.State.TheVariants as state;
 
-use crate::cells::{doc_at, number_at, owner_at, record_at, stash_at};
+use listed_cells::{doc_at, number_at, owner_at, record_at, stash_at};
 use std::cmp::Ordering;
 use store_trait::{DocCell, Name, Named, Side, StashCell};
 use txn_key::{Key, Token};

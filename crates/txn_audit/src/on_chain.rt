@@ -5,11 +5,11 @@ ghost use Rattle.std.specs.Ordering.{int_eq};
 ghost use Rattle.store_laws.specs.Soundness.{StandsOnChain};
 ghost use Rattle.store_laws.specs.View.{look};
 ghost use Rattle.txn_audit.specs.Chains.{numbers_of, is_end, stands_by, some_stand_by, all_on_chain};
-ghost use Rattle.txn_audit.specs.Listing.{IsListing, content_of};
+ghost use Rattle.listed_cells.specs.Listing.{IsListing, content_of};
 ghost use Rattle.txn_key.specs.Keys.{same_key};
 ghost use Rattle.txn_record.specs.Revnos.{number_after};
 
-use crate::cells::number_at;
+use listed_cells::number_at;
 use std::cmp::Ordering;
 use store_trait::Named;
 use txn_key::Key;

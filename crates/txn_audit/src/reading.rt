@@ -8,7 +8,8 @@ ghost use Rattle.store_trait.specs.Contents.{first_past, is_past, named};
 ghost use Rattle.store_trait.specs.Names.{may_stand};
 ghost use Rattle.store_trait.specs.Stores.{Calls, OneCall};
 ghost use Rattle.txn_audit.specs.Errors.{IsOfCall, IsOfReading};
-ghost use Rattle.txn_audit.specs.Listing.{IsListing};
+ghost use Rattle.txn_audit.specs.Reading.{ReadsOnce};
+ghost use Rattle.listed_cells.specs.Listing.{IsListing};
 
 use crate::error::AuditError;
 use sqlite_items::Items;
@@ -27,6 +28,7 @@ pub fn list_cells<S: Store>(alloc: Global, store: &mut S) -> Result<Items<Named>
     ensures too_many { IsTrue S.tells → IsErrOf result AuditError.TooMany →
         200000 < length (entries (S.content store.old)) }
     ensures reads { IsTrue S.tells → OnlyReads S.Store store.old store.new }
+    ensures once { ReadsOnce S.Store store.old store.new }
     ensures kept { Calls S.Store store.old store.new result AuditError.StoreFault }
     ensures other { IfErr result IsOfReading }
 {

@@ -2,7 +2,7 @@ use Rattle.std.proofs.Common.{List, subst}
 use Rattle.std.proofs.lemmas.Result.{err_from_is_err_and}
 use Rattle.store_trait.specs.declared.cell.Named.{Named}
 use Rattle.txn_audit.specs.Audits.{IsFlawOf, Means}
-use Rattle.txn_audit.specs.Listing.{content_of}
+use Rattle.listed_cells.specs.Listing.{content_of}
 use Rattle.txn_audit.proofs.Audited.{audited, fault_found}
 use Rattle.txn_audit.proofs.checked.audit.Goals as goal
 

@@ -4,7 +4,7 @@ use Rattle.txn_key.specs.KeySets.{distinct}
 use Rattle.txn_key.specs.Places.{keys_rise}
 use Rattle.txn_key.specs.declared.key.Key.{Key}
 use Rattle.txn_audit.specs.Bodies.{held_body, keys_in, kept}
-use Rattle.txn_audit.specs.Listing.{content_of}
+use Rattle.listed_cells.specs.Listing.{content_of}
 use Rattle.txn_audit.proofs.Completions.{each_there, completed, unfit}
 use Rattle.txn_audit.proofs.completion.complete.Goals as goal
 

@@ -1,7 +1,7 @@
 use Rattle.std.proofs.Common.{◌≡◌, ◌<◌, length, get_or, arith, sym, ap, ◌∙◌}
 use Rattle.store_laws.specs.View.{look}
 use Rattle.txn_audit.specs.Bodies.{kept}
-use Rattle.txn_audit.specs.Listing.{content_of}
+use Rattle.listed_cells.specs.Listing.{content_of}
 use Rattle.txn_audit.proofs.PendingRuns.{cell_effect, cell_fits}
 use Rattle.txn_audit.proofs.completion.run_all.Goals as goal
 

@@ -1,7 +1,7 @@
 use Rattle.std.proofs.Common.{◌≡◌, length, drop}
 use Rattle.store_laws.specs.View.{look}
 use Rattle.txn_audit.specs.Bodies.{kept, to_do, first_unfit}
-use Rattle.txn_audit.specs.Listing.{content_of}
+use Rattle.listed_cells.specs.Listing.{content_of}
 use Rattle.txn_record.specs.Effects.{effect}
 use Rattle.txn_audit.proofs.PendingRuns.{shifted}
 use Rattle.txn_audit.proofs.completion.run_all.Given as goal

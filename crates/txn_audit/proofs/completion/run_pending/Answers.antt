@@ -6,7 +6,7 @@ use Rattle.txn_record.specs.declared.op.Op.{Op}
 use Rattle.store_laws.specs.Meaning.{not_done}
 use Rattle.store_laws.specs.View.{look}
 use Rattle.txn_audit.specs.Bodies.{kept}
-use Rattle.txn_audit.specs.Listing.{content_of}
+use Rattle.listed_cells.specs.Listing.{content_of}
 use Rattle.txn_audit.proofs.PendingRuns.{step_effect, step_fits, none_left, at_zero}
 use Rattle.txn_audit.proofs.completion.run_pending.Goals as goal
 

@@ -2,7 +2,7 @@ use Rattle.std.proofs.Common.{◌≡◌, length, drop}
 use Rattle.store_laws.specs.Meaning.{not_done}
 use Rattle.store_laws.specs.View.{look}
 use Rattle.txn_audit.specs.Bodies.{kept}
-use Rattle.txn_audit.specs.Listing.{content_of}
+use Rattle.listed_cells.specs.Listing.{content_of}
 use Rattle.txn_record.specs.Effects.{effect, changes_fit}
 use Rattle.txn_audit.proofs.completion.run_pending.Given as goal
 

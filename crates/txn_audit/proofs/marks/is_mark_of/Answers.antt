@@ -4,7 +4,7 @@ use Rattle.std.specs.Option.{option_copied}
 use Rattle.store_laws.specs.View.{look}
 use Rattle.txn_audit.proofs.MarkTests.{mark_parts}
 use Rattle.txn_audit.proofs.marks.is_mark_of.Goals as goal
-use Rattle.txn_audit.specs.Listing.{content_of}
+use Rattle.listed_cells.specs.Listing.{content_of}
 use Rattle.txn_audit.specs.Marks.{is_marking}
 
 pub returns : goal.returns

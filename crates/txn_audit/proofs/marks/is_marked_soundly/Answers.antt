@@ -1,7 +1,7 @@
 use Rattle.std.specs.Option.{option_copied}
 use Rattle.txn_audit.proofs.MarkTests.{doc_mark_tested, stash_mark_tested}
 use Rattle.txn_audit.proofs.marks.is_marked_soundly.Goals as goal
-use Rattle.txn_audit.specs.Listing.{content_of}
+use Rattle.listed_cells.specs.Listing.{content_of}
 
 pub returns-in-Doc : goal.returns-in-Doc
 returns-in-Doc c =

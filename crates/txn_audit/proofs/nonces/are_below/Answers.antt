@@ -1,5 +1,5 @@
 use Rattle.std.proofs.Common.{option_to_list}
-use Rattle.txn_audit.proofs.TokenLists.{below_then, below_else}
+use Rattle.txn_audit.proofs.NonceTests.{below_then, below_else}
 use Rattle.txn_audit.proofs.nonces.are_below.Goals as goal
 
 pub returns-then-is_queue_below : goal.returns-then-is_queue_below

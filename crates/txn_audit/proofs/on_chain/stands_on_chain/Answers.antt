@@ -1,7 +1,7 @@
 use Rattle.store_laws.specs.View.{look}
 use Rattle.txn_audit.proofs.OnChains.{chain_tested}
 use Rattle.txn_audit.proofs.on_chain.stands_on_chain.Goals as goal
-use Rattle.txn_audit.specs.Listing.{content_of}
+use Rattle.listed_cells.specs.Listing.{content_of}
 
 pub returns : goal.returns
 returns c =

@@ -5,7 +5,7 @@ use Rattle.store_trait.specs.Contents.{Content, first_past, named}
 use Rattle.store_laws.proofs.trails.CallsMade.{call_after, calls_none}
 use Rattle.store_laws.proofs.trails.OnlyReading.{reads_none, reads_call}
 use Rattle.txn_audit.specs.declared.error.AuditError.TheVariants as error
-use Rattle.txn_audit.proofs.Readings.{lists_none, lists_more, lists_all, more_than, rises_none, rises_more, few_more, fault_after}
+use Rattle.txn_audit.proofs.Readings.{lists_none, lists_more, lists_all, more_than, rises_none, rises_more, few_more, made_more, reads_once, fault_after}
 use Rattle.txn_audit.proofs.reading.list_cells.Goals as goal
 
 pub loop-after-init : goal.loop-after-init
@@ -13,6 +13,7 @@ loop-after-init g c = rw c.new-cells.ensures (record {
   listed = λ told. lists_none (g.S.Store.content c.args.store.now);
   reads = λ told. reads_none g.S.Store c.args.store.now (g.met.S.Store.present c.args.store.now told);
   go_on = calls_none g.S.Store c.args.store.now (λ told. g.met.S.Store.present c.args.store.now told);
+  made = omega arith;
   rises = rises_none;
   few = omega arith;
 })
@@ -26,6 +27,7 @@ loop-after-preserved g c =
           lists_more (g.S.Store.content c.args.store.now) c.loop-after.after c.loop-after.cells c.in-Some.named (c.loop-after.invariant.listed told) found;
       reads = λ told. reads_call g.S.Store c.args.store.now c.loop-after.store c.next_past.new.store c.next_past.result error.StoreFault told (g.met.S.Store.present c.loop-after.store told) (c.loop-after.invariant.reads told) c.next_past.ensures.call (c.next_past.ensures.same told);
       go_on = call_after g.S.Store c.args.store.now c.loop-after.store c.next_past.new.store c.next_past.result error.StoreFault c.loop-after.invariant.go_on c.next_past.ensures.call;
+      made = made_more g.S.Store c.args.store.now c.loop-after.store c.next_past.new.store c.loop-after.cells c.in-Some.named c.next_past.result error.StoreFault _ c.in_ok-named.was c.loop-after.invariant.made c.next_past.ensures.call;
       rises = rises_more c.loop-after.after c.loop-after.cells c.in-Some.named c.loop-after.invariant.rises
           (rw (c.in-Some.is, c.as_ref.ensures.value) at c.in_ok-named.ensures.past) (rw (c.in-Some.is) at c.in_ok-named.ensures.kind);
       few = few_more c.loop-after.cells c.in-Some.named few;
@@ -75,3 +77,23 @@ returns-clause-kept g c = record {
   go_on = call_after g.S.Store c.args.store.now c.loop-after.store c.next_past.new.store c.next_past.result error.StoreFault c.loop-after.invariant.go_on c.next_past.ensures.call;
   fault = λ e. absurd (cc);
 }
+
+pub returns-in_err-named-clause-once : goal.returns-in_err-named-clause-once
+returns-in_err-named-clause-once g c =
+    reads_once g.S.Store c.args.store.now c.loop-after.store c.next_past.new.store c.loop-after.after c.loop-after.cells c.next_past.result error.StoreFault c.loop-after.invariant c.next_past.ensures.call
+
+pub returns-then-len-ge-MAX_CELLS-clause-once : goal.returns-then-len-ge-MAX_CELLS-clause-once
+returns-then-len-ge-MAX_CELLS-clause-once g c =
+    reads_once g.S.Store c.args.store.now c.loop-after.store c.next_past.new.store c.loop-after.after c.loop-after.cells c.next_past.result error.StoreFault c.loop-after.invariant c.next_past.ensures.call
+
+pub returns-in_err-copy-clause-once : goal.returns-in_err-copy-clause-once
+returns-in_err-copy-clause-once g c =
+    reads_once g.S.Store c.args.store.now c.loop-after.store c.next_past.new.store c.loop-after.after c.loop-after.cells c.next_past.result error.StoreFault c.loop-after.invariant c.next_past.ensures.call
+
+pub returns-in_err-push-clause-once : goal.returns-in_err-push-clause-once
+returns-in_err-push-clause-once g c =
+    reads_once g.S.Store c.args.store.now c.loop-after.store c.next_past.new.store c.loop-after.after c.loop-after.cells c.next_past.result error.StoreFault c.loop-after.invariant c.next_past.ensures.call
+
+pub returns-clause-once : goal.returns-clause-once
+returns-clause-once g c =
+    reads_once g.S.Store c.args.store.now c.loop-after.store c.next_past.new.store c.loop-after.after c.loop-after.cells c.next_past.result error.StoreFault c.loop-after.invariant c.next_past.ensures.call

@@ -1,0 +1,12 @@
+pub mod Listings
+pub mod TokenLists
+pub mod TokenSets
+pub mod ChainEdges
+pub mod ChainMarks
+pub mod Rosters
+pub mod Lookups
+pub mod Listed
+pub mod Readiness
+pub mod WalkAll
+pub mod OrderMade
+pub mod Waiting

@@ -1,6 +1,0 @@
-use Rattle.std.proofs.Common.{◌∙◌}
-use Rattle.txn_audit.proofs.Listings.{queue_looked}
-use Rattle.txn_audit.proofs.cells.queue_at.Goals as goal
-
-pub returns : goal.returns
-returns c = c.owner_queue.ensures ∙ queue_looked _ _ _ _ c.doc_at.ensures c.stash_at.ensures

@@ -1,8 +1,0 @@
-use Rattle.std.proofs.Common.{drop}
-use Rattle.store_laws.specs.View.{look}
-use Rattle.txn_audit.specs.Listing.{content_of}
-use Rattle.txn_audit.specs.Tokens.{AllNamed}
-use Rattle.txn_audit.proofs.tokens.are_named.Given as goal
-
-abbrev pub invariant-loop-token : goal.invariant-loop-token
-invariant-loop-token l = AllNamed (look (content_of l.cells)) l.key (drop l.token-index l.queue) → AllNamed (look (content_of l.cells)) l.key l.queue

@@ -1,7 +1,0 @@
-use Rattle.std.proofs.Common.{refl}
-use Rattle.txn_audit.proofs.TokenSets.{on_read}
-use Rattle.txn_audit.proofs.tokens.is_on.Goals as goal
-
-pub returns-then-equals : goal.returns-then-equals
-returns-then-equals c =
-    (λ t. on_read c.args.key.now c.args.ops.now c.loop-op.op-index c.op-item.result c.loop-op-test.true c.op-item.is (c.equals.ensures.0 c.if-equals.true), λ on. refl)

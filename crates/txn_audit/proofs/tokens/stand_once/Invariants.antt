@@ -1,6 +1,0 @@
-use Rattle.std.proofs.Common.{take}
-use Rattle.txn_audit.proofs.TokenSets.{IsSeen}
-use Rattle.txn_audit.proofs.tokens.stand_once.Given as goal
-
-abbrev pub invariant-loop-token : goal.invariant-loop-token
-invariant-loop-token l = IsSeen l.seen (take l.token-index l.queue)

@@ -1,9 +1,0 @@
-use Rattle.std.proofs.Common.{sym, ◌∙◌}
-use Rattle.txn_audit.proofs.Lookups.{prepared_by}
-use Rattle.txn_audit.proofs.walks.is_prepared.Goals as goal
-
-pub returns-in-Some : goal.returns-in-Some
-returns-in-Some c = c.is_decided.ensures ∙ sym (prepared_by _ _ _ (rw c.in-Some.is at c.record_at.ensures))
-
-pub returns-in-None : goal.returns-in-None
-returns-in-None c = sym (prepared_by _ _ _ (rw c.in-None.is at c.record_at.ensures))
