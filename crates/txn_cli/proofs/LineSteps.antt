@@ -1,6 +1,6 @@
 -- A line in two steps: a batch that is let run first, and the line itself.
 use Rattle.std.proofs.Common.{◌≡◌, ◌≢◌, ◌≤◌, ◌⊎◌, ⊎_elim, inl, inr, ℕ, Bool, true, false, List, [], ◌∷◌, ◌++◌, ◌==◌, Option, Some, None, Result, Ok, Err, OnOk, IfErr, IfOk, IsTrue, length, refl, sym, ap, ◌∙◌, subst, arith, cond}
-use Rattle.std.specs.Prelude.{IfSome}
+use Rattle.std.specs.Prelude.{IfSome, ◌&&◌, ◌||◌, not}
 use Rattle.std.proofs.lemmas.List.{append-nil}
 use Rattle.store_trait.specs.Contents.{Content}
 use Rattle.store_trait.specs.Exchanges.{Exchanged}
