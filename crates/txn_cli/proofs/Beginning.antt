@@ -1,7 +1,6 @@
 -- How a call begins.
-use Rattle.std.proofs.Common.{◌≡◌, ◌≤◌, ℕ, Bool, true, false, List, [], ◌++◌, IsTrue, Result, Err, ◌⊎◌, ⊎_elim, inl, inr, refl, sym, ap, ◌∙◌, subst, arith}
+use Rattle.std.proofs.Common.{◌≡◌, ◌≤◌, ℕ, Bool, true, List, [], ◌++◌, IsTrue, Result, Err, ◌⊎◌, ⊎_elim, inl, inr, refl, sym, ◌∙◌, subst, arith}
 use Rattle.std.proofs.lemmas.List.{append-nil}
-use Rattle.store_trait.specs.Contents.{Content}
 use Rattle.store_trait.specs.declared.store.Store.{Ghosts}
 use Rattle.txn_io.specs.Unread.{Unread}
 use Rattle.txn_runner.specs.Calm.{IsCalm}
@@ -15,7 +14,7 @@ use Rattle.txn_play.specs.declared.session.Session.{Session}
 use Rattle.txn_play.proofs.Opening.{none_is_empty}
 use Rattle.txn_play.proofs.Sessions.{opens_calm, nothing_waits}
 use Rattle.txn_cli.specs.Call.{HasStopped, Held, Taken, holding_in, start}
-use Rattle.txn_cli.specs.Output.{Writing, answers_text}
+use Rattle.txn_cli.specs.Output.{Writing}
 use Rattle.txn_cli.specs.Script.{Plays}
 use Rattle.txn_cli.specs.Faults.{OrShort, fault_of_stop}
 use Rattle.txn_play.specs.declared.refusal.Refusal.{Refusal}

@@ -1,8 +1,7 @@
 -- A line in two steps: a batch that is let run first, and the line itself.
-use Rattle.std.proofs.Common.{◌≡◌, ◌≢◌, ◌≤◌, ◌⊎◌, ⊎_elim, inl, inr, ℕ, Bool, true, false, List, [], ◌∷◌, ◌++◌, ◌==◌, Option, Some, None, Result, Ok, Err, OnOk, IfErr, IfOk, IsTrue, length, refl, sym, ap, ◌∙◌, subst, arith, cond}
+use Rattle.std.proofs.Common.{◌≡◌, ◌≢◌, ◌≤◌, ◌⊎◌, ⊎_elim, inl, inr, ℕ, Bool, true, false, List, [], ◌∷◌, ◌==◌, Option, Some, None, Result, Ok, Err, OnOk, IfErr, IsTrue, length, refl, sym, ap, ◌∙◌, subst, arith, cond}
 use Rattle.std.specs.Prelude.{IfSome, ◌&&◌, ◌||◌, not}
 use Rattle.std.proofs.lemmas.List.{append-nil}
-use Rattle.store_trait.specs.Contents.{Content}
 use Rattle.store_trait.specs.Exchanges.{Exchanged}
 use Rattle.store_trait.specs.Stores.{CallsGoOn}
 use Rattle.store_trait.specs.declared.store.Store.{Ghosts}
@@ -11,7 +10,6 @@ use Rattle.txn_script.specs.Faults.{fault_text as script_text}
 use Rattle.txn_script.specs.declared.fault.ScriptFault.{ScriptFault}
 use Rattle.txn_script.specs.declared.fault.ScriptFault.TheVariants as script_fault
 use Rattle.txn_script.specs.declared.statement.Statement.{Statement}
-use Rattle.txn_script.specs.declared.statement.Statement.TheVariants as statement
 use Rattle.txn_play.specs.Remains.{Stays}
 use Rattle.txn_play.specs.Progress.{Progress, Does, is_nothing, lets_run, may_find, may_find_at, objection_at_end, objection_to, runs_batch, unless_alone}
 use Rattle.txn_play.specs.Sessions.{HasEnough, IsCaused, IsKept, Stands, at, holding}
@@ -29,7 +27,7 @@ use Rattle.txn_play.specs.declared.session.Session.{Session}
 use Rattle.txn_play.proofs.BatchRuns.{left_more}
 use Rattle.txn_cli.specs.Causes.{counts}
 use Rattle.txn_cli.specs.Faults.{objection_text, refusal_in_stop, stop_of_reading}
-use Rattle.txn_cli.specs.Line.{Between, Deed, HasDone, HasDoneCut, HasDoneIdly, HasDoneLine, HasRunFirst, HasStoppedLine, IsKeptLine, IsOfStatement, LeftBy, MayStop, RefusedBy, RunsFirst, RunsWaiting, StoppedByFinding, StoppedFirst, StoppedFor, StoppedWaiting, StopsFor, performing, playing, running, running_first, up_to, from}
+use Rattle.txn_cli.specs.Line.{Between, Deed, HasDone, HasDoneLine, HasRunFirst, HasStoppedLine, IsKeptLine, IsOfStatement, LeftBy, MayStop, RefusedBy, RunsFirst, RunsWaiting, StoppedByFinding, StoppedFirst, StoppedFor, StopsFor, performing, playing, running, running_first, up_to, from}
 use Rattle.txn_cli.specs.Output.{Writing, Wrote, WrotePart, answer_text, prints}
 use Rattle.txn_cli.proofs.Scripts.{first_as}
 use Rattle.txn_cli.specs.Script.{MayFindAs, MayRefuseAs, PlaysAs, RefusedAs, RefusedFor, Stated, line_lets_run, line_may_run}

@@ -1,5 +1,5 @@
 -- How a call stops: at a line, at the end of the input, or where no line is read.
-use Rattle.std.proofs.Common.{◌≡◌, ◌≢◌, ◌≤◌, ℕ, ◌+◌, Bool, true, false, List, [], ◌∷◌, ◌++◌, Option, Some, None, Result, Ok, Err, OnOk, IfErr, IfOk, IsTrue, ◌⊎◌, ⊎_elim, inl, inr, refl, sym, ap, ◌∙◌, subst, cond, codes, arith}
+use Rattle.std.proofs.Common.{◌≡◌, ◌≤◌, ℕ, ◌+◌, Bool, true, false, List, [], Option, Some, None, Result, Ok, Err, OnOk, IsTrue, ◌⊎◌, ⊎_elim, inl, inr, refl, sym, ap, ◌∙◌, subst, cond, codes, arith}
 use Rattle.std.specs.Prelude.{IfSome}
 use Rattle.std.proofs.lemmas.List.{append-nil}
 use Rattle.store_trait.specs.Contents.{Content}
@@ -10,30 +10,27 @@ use Rattle.txn_io.specs.Unread.{Unread, HasRead, IsRefused}
 use Rattle.txn_io.specs.declared.source.Source.{Ghosts as SourceGhosts}
 use Rattle.txn_io.specs.declared.lines.LineFault.{LineFault}
 use Rattle.txn_io.specs.declared.lines.LineFault.TheVariants as line_fault
-use Rattle.txn_runner.specs.declared.waiting.Waiting.{Waiting}
 use Rattle.txn_script.specs.Faults.{fault_text as script_text}
 use Rattle.txn_script.specs.Statements.{line_in}
 use Rattle.txn_script.specs.declared.fault.ScriptFault.{ScriptFault}
 use Rattle.txn_script.specs.declared.statement.Statement.{Statement}
-use Rattle.txn_script.specs.declared.fault.ScriptFault.TheVariants as script_fault
-use Rattle.txn_play.specs.Remains.{HasLeft, Holding, Stays}
-use Rattle.txn_play.specs.Progress.{Progress, RunsItself, holding_at, is_nothing, lets_run, objection_at_end, runs_batch}
+use Rattle.txn_play.specs.Remains.{HasLeft, Stays}
+use Rattle.txn_play.specs.Progress.{Progress, lets_run, runs_batch}
 use Rattle.txn_play.specs.Refusals.{IsUnspent}
 use Rattle.txn_play.specs.Sessions.{HasEnough, IsCaused, at, holding}
 use Rattle.txn_play.specs.declared.answer.Answer.{Answer}
-use Rattle.txn_play.specs.declared.finding.Finding.{Finding}
 use Rattle.txn_play.specs.declared.finding.Finding.TheVariants as finding
 use Rattle.txn_play.specs.declared.objection.Objection.{Objection}
 use Rattle.txn_play.specs.declared.refusal.Refusal.{Refusal}
 use Rattle.txn_play.specs.declared.refusal.Refusal.TheVariants as refusal
 use Rattle.txn_play.specs.declared.session.Session.{Session}
 use Rattle.txn_play.proofs.BatchRuns.{left_more}
-use Rattle.txn_cli.specs.Call.{HasCut, HasDoneNext, HasPlayed, HasStopped, Held, IsOfNext, Leaves, LeavesShort, LeftIn, StopsWith, Taken, held, holding_in}
+use Rattle.txn_cli.specs.Call.{HasDoneNext, HasPlayed, HasStopped, Held, StopsWith, Taken, held}
 use Rattle.txn_cli.specs.Causes.{NoneSpent}
-use Rattle.txn_cli.specs.Faults.{OrShort, fault_of_line, fault_of_refusal, fault_of_stop, objection_text, refusal_in, refusal_in_stop}
-use Rattle.txn_cli.specs.Line.{Deed, HasDone, HasDoneCut, HasDoneIdly, HasStoppedLine, LeftBy, RefusedBy, RunsFirst, StoppedWaiting, RunsWaiting, playing, running, running_first}
+use Rattle.txn_cli.specs.Faults.{OrShort, fault_of_line, fault_of_stop, objection_text, refusal_in_stop}
+use Rattle.txn_cli.specs.Line.{Deed, HasDone, HasDoneIdly, HasStoppedLine, LeftBy, RefusedBy, StoppedWaiting, RunsWaiting, playing, running, running_first}
 use Rattle.txn_cli.specs.Output.{Writing, Wrote, answer_text, answers_text}
-use Rattle.txn_cli.specs.Script.{DoesNext, Finds, Plays, Reached, RefusedAs, RefusedFor, Refuses, line_lets_run, line_may_run, next_lets_run, next_may_run, next_of}
+use Rattle.txn_cli.specs.Script.{DoesNext, Finds, Reached, RefusedFor, Refuses, line_lets_run, line_may_run, next_lets_run, next_may_run, next_of}
 use Rattle.txn_cli.specs.declared.fault.Fault.{Fault}
 use Rattle.txn_cli.specs.declared.fault.Fault.TheVariants as fault
 use Rattle.txn_cli.specs.declared.stop.Stop.{Stop}

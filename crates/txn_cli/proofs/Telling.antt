@@ -2,7 +2,7 @@
 use Rattle.std.proofs.Common.{◌≡◌, ◌≢◌, ◌≤◌, ℕ, Bool, true, List, [], ◌++◌, Option, Result, Ok, Err, OnOk, OnErr, IsTrue, ◌⊎◌, ⊎_elim, inl, inr, refl, sym, ap, ◌∙◌, subst}
 use Rattle.std.proofs.lemmas.List.{append-nil, append_assoc}
 use Rattle.txn_io.specs.Pour.{IsPartPut}
-use Rattle.txn_cli.specs.Call.{EndsWith, HasCut, HasDoneNext, HasStopped, HasRefused, Held, Leaves, LeavesShort, StopsWith, Taken}
+use Rattle.txn_cli.specs.Call.{EndsWith, HasStopped, HasRefused, Held, Leaves, StopsWith, Taken}
 use Rattle.store_trait.specs.declared.store.Store.{Ghosts}
 use Rattle.store_laws.proofs.trails.CallsMade.{rose_before}
 use Rattle.txn_cli.specs.Causes.{Counts, HasRisen, IsCaused, NoneSpent, circumstances, counts}

@@ -60,21 +60,24 @@ const UNPLACED: &str = r#"{"doc":["k","a"],"body":{"v":0}}
 "#;
 
 /// A token waits in a queue, and the record that it names is lost: an audit says so, and the script goes on.
-const LOST: &str = r#"{"c":"k","cell":"doc","is":{"_id":"x","txn-queue":["000000000000000000000009_00000000"],"v":0}}
+const LOST: &str =
+    r#"{"c":"k","cell":"doc","is":{"_id":"x","txn-queue":["000000000000000000000009_00000000"],"v":0}}
 {"cell":"nonce","is":{"next":1}}
 {"audit":true}
 {"order":true}
 "#;
 
 /// Documents aren't shown of such a store.
-const LOST_SHOWN: &str = r#"{"c":"k","cell":"doc","is":{"_id":"x","txn-queue":["000000000000000000000009_00000000"],"v":0}}
+const LOST_SHOWN: &str =
+    r#"{"c":"k","cell":"doc","is":{"_id":"x","txn-queue":["000000000000000000000009_00000000"],"v":0}}
 {"cell":"nonce","is":{"next":1}}
 {"show":true}
 {"audit":true}
 "#;
 
 /// A transaction is on its way, of which one document has its update and the other hasn't: each is shown with it.
-const APPLYING: &str = r#"{"cell":"record","is":{"_id":"000000000000000000000001","n":"00000000","o":[{"c":"k","d":"a","u":{"$inc":{"v":-1}}},{"c":"k","d":"b","u":{"$inc":{"v":1}}}],"r":[0,0],"s":4}}
+const APPLYING: &str =
+    r#"{"cell":"record","is":{"_id":"000000000000000000000001","n":"00000000","o":[{"c":"k","d":"a","u":{"$inc":{"v":-1}}},{"c":"k","d":"b","u":{"$inc":{"v":1}}}],"r":[0,0],"s":4}}
 {"c":"k","cell":"doc","is":{"_id":"a","txn-queue":["000000000000000000000001_00000000"],"txn-revno":1,"v":2}}
 {"c":"k","cell":"doc","is":{"_id":"b","txn-queue":["000000000000000000000001_00000000"],"v":5}}
 {"cell":"nonce","is":{"next":1}}
@@ -107,7 +110,12 @@ static WORKED: [(&str, &str, u8, &str); 20] = [
     ("run", "{\"audit\":true}\n", 0, "sound\n"),
     ("run", LOST, 0, "unsound: rule 2 at doc \"k\" \"x\"\n"),
     ("run", LOST_SHOWN, 4, "unsound: rule 2 at doc \"k\" \"x\"\n"),
-    ("run", APPLYING, 0, "sound\n\"k\" \"a\" {\"v\":2}\n\"k\" \"b\" {\"v\":6}\n"),
+    (
+        "run",
+        APPLYING,
+        0,
+        "sound\n\"k\" \"a\" {\"v\":2}\n\"k\" \"b\" {\"v\":6}\n",
+    ),
     ("run", "# a comment\n\n{\"sho", 3, "line 3: not JSON\n"),
     (
         "run",

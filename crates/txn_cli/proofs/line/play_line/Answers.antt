@@ -1,7 +1,6 @@
 use Rattle.std.proofs.Common.{Ok, refl, ap, sym, ◌∙◌, arith}
-use Rattle.std.proofs.lemmas.Result.{err_from_is_err_and}
 use Rattle.txn_cli.specs.Output.{writing}
-use Rattle.txn_cli.proofs.LineSteps.{done_line, enough_first, kept_misread, kept_still, kept_then, may_misread, may_stop, may_stop_first, misread_line, skipped_line, stops_first, stops_then}
+use Rattle.txn_cli.proofs.LineSteps.{done_line, enough_first, kept_misread, kept_still, kept_then, skipped_line, stops_then}
 use Rattle.txn_cli.proofs.line.play_line.Goals as goal
 
 pub returns-in-Ok-None-clause-done : goal.returns-in-Ok-None-clause-done
