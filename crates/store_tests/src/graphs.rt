@@ -3,7 +3,7 @@ ghost use Rattle.std.specs.Prelude.{◌≢◌, ℕ, ◌<◌, ◌≡◌, length, 
 ghost use Rattle.txn_key.specs.declared.id.TxnId.{TxnId as TxnIdValue};
 ghost use Rattle.cycle_order.specs.Graphs.{IsGraph};
 
-use cycle_order::{Edge, Graph, ancestors, clean, pick};
+use cycle_order::{Edge, Graph, ancestors, clean, descendants, is_ready, pick};
 use sqlite_items::Items;
 use std::alloc::Global;
 use std::test::Fail;
@@ -184,6 +184,29 @@ fn ring(alloc: Global, count: u32) -> Result<Graph, Fail>
         settled.as_slice(),
         edges.as_slice(),
     )
+}
+
+/// Which vertices are ready, in their order.
+fn ready_flags(alloc: Global, graph: &Graph) -> Result<Vec<bool>, Fail>
+    requires { IsGraph graph.now }
+{
+    let mut flags = Vec::new(alloc);
+    for v in 0..graph.ids.len() {
+        flags.push(is_ready(alloc, graph, v as u64)?)?;
+    }
+    Ok(flags)
+}
+
+/// A chain of three whose middle vertex, the first listed, is settled.
+#[test]
+fn settled_in_a_chain(rt: HostRuntime) -> Result<(), Fail> {
+    let alloc = rt.alloc();
+    let chain = graph(alloc, &[1, 2, 3], &[true, false, false], &[(1, 0), (0, 2)])?;
+    let ready = ready_flags(alloc, &chain)?;
+    assert_eq!(rt; ready.as_slice(), &[false, true, false]);
+    let behind = descendants(alloc, &chain, chain.settled.as_slice())?;
+    assert_eq!(rt; behind.as_slice(), &[true, false, true]);
+    Ok(())
 }
 
 #[test]

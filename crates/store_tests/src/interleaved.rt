@@ -47,24 +47,47 @@ fn is_prepared(alloc: Global, store: &mut SilentStore, line: &str) -> Result<boo
     }
 }
 
-/// Whether the store is sound after each step, where the bits of `order` say whose turn it is, the helper
-/// comes before the step `helped`, and both records are prepared in the end.
+/// Both preparations, which take turns.
+#[derive(Drop)]
+struct Pair {
+    first: Prepare,
+    second: Prepare,
+}
+
+/// Whether the store is sound after each of twelve steps, of which the bits of `order` say whose turn it is, and
+/// after the helper, which comes before the step `helped`.
+fn steps_stay_sound(
+    alloc: Global,
+    store: &mut SilentStore,
+    pair: &mut Pair,
+    order: u32,
+    helped: u32,
+) -> Result<bool, Fail> {
+    for place in 0_u32..12 {
+        if place == helped && !helps(alloc, store)? {
+            return Ok(false);
+        }
+        let part = if order >> place & 1 == 1 {
+            &mut pair.first
+        } else {
+            &mut pair.second
+        };
+        if !steps(alloc, store, part)? {
+            return Ok(false);
+        }
+    }
+    Ok(true)
+}
+
+/// The same from the beginning, and whether both records are prepared in the end.
 fn stays_sound(alloc: Global, order: u32, helped: u32) -> Result<bool, Fail> {
     let mut store = opened(alloc, &[FIRST, SECOND, DOCUMENT])?;
-    let mut first = preparation(alloc, FIRST)?;
-    let mut second = preparation(alloc, SECOND)?;
-    for place in 0..12 {
-        if place == helped && !helps(alloc, &mut store)? {
-            return Ok(false);
-        }
-        let turn = if order >> place & 1 == 1 {
-            steps(alloc, &mut store, &mut first)?
-        } else {
-            steps(alloc, &mut store, &mut second)?
-        };
-        if !turn {
-            return Ok(false);
-        }
+    let mut pair = Pair {
+        first: preparation(alloc, FIRST)?,
+        second: preparation(alloc, SECOND)?,
+    };
+    if !steps_stay_sound(alloc, &mut store, &mut pair, order, helped)? {
+        return Ok(false);
     }
     Ok(is_prepared(alloc, &mut store, FIRST)? && is_prepared(alloc, &mut store, SECOND)?)
 }

@@ -1,5 +1,5 @@
 -- What an audit concludes.
-use Rattle.std.proofs.Common.{◌≡◌, ℕ, ◌<◌, ◌≤◌, true, List, [], ◌∷◌, length, map, ap, get_or, Some, inl, inr, refl, sym, ◌∙◌, subst, arith}
+use Rattle.std.proofs.Common.{◌≡◌, ℕ, ◌<◌, ◌≤◌, true, List, [], ◌∷◌, length, map, ap, get_or, Some, inl, inr, refl, sym, ◌∙◌, subst, arith, Result, Ok, Err, IsErrOf, ⊎_elim}
 use Rattle.std.proofs.lemmas.Bool.{cases_lt}
 use Rattle.std.proofs.lemmas.List.{length-map}
 use Rattle.std.specs.FinMap.{get, entries, entries_sorted, entries-from_sorted, from_sorted, same_entries_map}
@@ -10,7 +10,10 @@ use Rattle.store_trait.specs.declared.cell.Named.{Named}
 use Rattle.store_trait.specs.declared.name.Name.{Name}
 use Rattle.store_laws.specs.Soundness.{Rule, Holds, Numbers, Tokens, Nonces, InQueues, AppliesReady, DecidedSealed, Marks, Entries, OnChain, Fits, rule_number}
 use Rattle.txn_key.specs.Documents.{Docs}
-use Rattle.txn_audit.specs.Audits.{Means, IsAudited, IsFlawOf, HasFault}
+use Rattle.store_trait.specs.declared.store.Store.{Ghosts}
+use Rattle.txn_audit.specs.Audits.{Means, IsAudited, IsFlawOf, IsShownAs, HasFault}
+use Rattle.txn_audit.specs.Errors.{IsOfReading}
+use Rattle.txn_audit.specs.Reading.{IsShown, ReadsWhole, WasListed}
 use Rattle.txn_audit.specs.Bodies.{IsComplete, IsUnfit}
 use Rattle.txn_audit.specs.Checks.{HoldBelow}
 use Rattle.txn_audit.specs.Flaws.{IsFirstBroken}
@@ -90,3 +93,45 @@ fault_found c cells is few (error.Unsound rule at) f = (few_listed c cells is fe
 fault_found c cells is few error.TooMany f = absurd f
 fault_found c cells is few error.StoreFault f = absurd f
 fault_found c cells is few error.OutOfMemory f = tt
+
+-- ---- an audit reads as its listing did
+
+module _ {S A B : Type 0} (store : Ghosts S) (old new : S) where
+  reads_as : (r : Result A AuditError) (o : Result B AuditError) → ReadsWhole store old new r → (IsErrOf o error.StoreFault → IsErrOf r error.StoreFault)
+      → (IsErrOf r error.StoreFault → IsErrOf o error.StoreFault) → ReadsWhole store old new o
+  reads_as r o h failed refused = record {
+    only = h.only;
+    go_on = h.go_on;
+    each = h.each;
+    most = h.most;
+    fault = λ e. h.fault (failed e);
+    still = ⊎_elim (λ e. inl (refused e)) inr h.still;
+  }
+
+  pub reads_err : (why : AuditError) → ReadsWhole {T = A} store old new (Err why) → ReadsWhole {T = B} store old new (Err why)
+  reads_err error.StoreFault h = reads_as (Err error.StoreFault) (Err error.StoreFault) h (λ e. refl) (λ e. refl)
+  reads_err error.TooMany h = reads_as (Err error.TooMany) (Err error.TooMany) h (λ e. absurd (cc)) (λ e. absurd (cc))
+  reads_err error.OutOfMemory h = reads_as (Err error.OutOfMemory) (Err error.OutOfMemory) h (λ e. absurd (cc)) (λ e. absurd (cc))
+  reads_err (error.Unsound rule at) h = reads_as (Err (error.Unsound rule at)) (Err (error.Unsound rule at)) h (λ e. absurd (cc)) (λ e. absurd (cc))
+
+  pub reads_judged : (cells : A) (c : Content) (why : AuditError) → IsFlawOf c why → ReadsWhole {T = A} store old new (Ok cells) → ReadsWhole {T = B} store old new (Err why)
+  reads_judged cells c error.StoreFault f h = absurd f
+  reads_judged cells c error.TooMany f h = absurd f
+  reads_judged cells c error.OutOfMemory f h = reads_as (Ok cells) (Err error.OutOfMemory) h (λ e. absurd (cc)) (λ e. absurd (cc))
+  reads_judged cells c (error.Unsound rule at) f h = reads_as (Ok cells) (Err (error.Unsound rule at)) h (λ e. absurd (cc)) (λ e. absurd (cc))
+
+  pub reads_ok : (cells : A) (checked : B) → ReadsWhole {T = A} store old new (Ok cells) → ReadsWhole {T = B} store old new (Ok checked)
+  reads_ok cells checked h = reads_as (Ok cells) (Ok checked) h (λ e. absurd (cc)) (λ e. absurd (cc))
+
+-- what it answers is so of the cells that were listed
+pub shown_err : {S : Type 0} (store : Ghosts S) (old new : S) (why : AuditError) → IsOfReading why → IsShown store old new (Err why) → IsShownAs store old new (Err why)
+shown_err store old new error.StoreFault of h = tt
+shown_err store old new error.TooMany of h = h
+shown_err store old new error.OutOfMemory of h = tt
+shown_err store old new (error.Unsound rule at) of h = absurd of
+
+pub shown_judged : {S : Type 0} (store : Ghosts S) (old new : S) (cells : List Named) (why : AuditError) → IsListing cells → WasListed store old new cells → IsFlawOf (content_of cells) why → IsShownAs store old new (Err why)
+shown_judged store old new cells error.StoreFault l h f = tt
+shown_judged store old new cells error.TooMany l h f = absurd f
+shown_judged store old new cells error.OutOfMemory l h f = tt
+shown_judged store old new cells (error.Unsound rule at) l h f = record { cells = cells; listed = h; ordered = l; flaw = f }

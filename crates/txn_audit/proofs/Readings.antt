@@ -1,5 +1,5 @@
 -- Cells that are read one after another: those read so far, and those past the last of them, are all.
-use Rattle.std.proofs.Common.{◌≡◌, ◌≤◌, ◌<◌, ◌+◌, ℕ, length, arith, ⊎_elim, Bool, true, false, ◌&&◌, cond, find, T, List, [], ◌∷◌, ◌++◌, map, Option, Some, None, IsTrue, Result, Ok, Err, refl, sym, ap, ◌∙◌, subst}
+use Rattle.std.proofs.Common.{◌≡◌, ◌≤◌, ◌<◌, ◌+◌, ℕ, length, arith, ⊎_elim, Bool, true, false, ◌&&◌, cond, find, T, List, [], ◌∷◌, ◌++◌, map, Option, Some, None, IsTrue, IsErrOf, Result, Ok, Err, inl, inr, refl, sym, ap, ◌∙◌, subst}
 use Rattle.std.specs.FinMap.{entries, entries_sorted, is_sorted}
 use Rattle.std.specs.FinMap.Entries.{below_all}
 use Rattle.std.specs.List.{All, filter, list_all}
@@ -16,17 +16,20 @@ use Rattle.std.proofs.lemmas.Option.{same_Some}
 use Rattle.store_trait.proofs.NameOrder.{name_cmp_total}
 use Rattle.store_trait.specs.Contents.{Content, first_past, is_past, named}
 use Rattle.store_trait.specs.Names.{name_cmp, may_stand}
-use Rattle.store_trait.specs.Stores.{Calls, CallsGoOn, OneCall}
+use Rattle.store_trait.specs.Calls.{Exchange}
+use Rattle.store_trait.specs.Exchanges.{IsExchange}
+use Rattle.store_trait.specs.Stores.{CallsGoOn, OneCall}
 use Rattle.store_trait.specs.declared.cell.Cell.{Cell}
 use Rattle.store_trait.specs.declared.cell.Named.{Named}
 use Rattle.store_trait.specs.declared.name.Name.{Name}
 use Rattle.store_trait.specs.declared.store.Store.{Ghosts}
 use Rattle.store_laws.proofs.trails.CallsMade.{call_after, rose_before}
+use Rattle.store_laws.proofs.trails.OnlyReading.{reads_call}
 use Rattle.txn_audit.specs.declared.error.AuditError.{AuditError}
 use Rattle.txn_audit.specs.declared.error.AuditError.TheVariants as error
 use Rattle.store_laws.specs.Reads.{OnlyReads}
 use Rattle.listed_cells.specs.Listing.{entries_of, IsListing}
-use Rattle.txn_audit.specs.Reading.{ReadsOnce}
+use Rattle.txn_audit.specs.Reading.{Lists, ListsMany, ReadsWhole}
 
 abbrev cells_of : Content → List Named
 cells_of c = map named (entries c)
@@ -211,41 +214,81 @@ rises_all after cells rise = record { rises = rise.sorted; kinds = rise.kinds }
 -- the cells up to a name were read, by calls that left a store's content as it was
 pub record HasRead {S : Type 0} (store : Ghosts S) (old now : S) (after : Option Name) (cells : List Named) : Type 0 where
   pub listed : IsTrue store.tells → IsListOf (store.content old) after cells
+  pub lists : Lists store old now after cells
   pub reads : IsTrue store.tells → OnlyReads store old now
   pub go_on : CallsGoOn store old now
   pub made : store.calls now ≡ store.calls old + length cells
+  pub still : store.faults now ≡ store.faults old
   pub rises : Rises after cells
   pub few : length cells ≤ 200000
 
 pub few_more : (cells : List Named) (found : Named) → length cells < 200000 → length (cells ++ found ∷ []) ≤ 200000
 few_more cells found less = omega (arith, length-append cells (found ∷ []), less)
 
--- one cell more was read, by one call more
-pub made_more : {S T E : Type 0} (store : Ghosts S) (old now new : S) (cells : List Named) (found : Named) (result : Result T E) (failed : E) (told : T) → result ≡ Ok told
-    → store.calls now ≡ store.calls old + length cells → OneCall store now new result failed → store.calls new ≡ store.calls old + length (cells ++ found ∷ [])
-made_more {S} {T} {E} store old now new cells found result failed told is made one =
-    let call : OneCall store now new (Ok told) failed = subst (λ (r : Result T E). OneCall store now new r failed) is one in
-    omega (arith, made, call.counted, length-append cells (found ∷ []))
+abbrev NextCall : {S : Type 0} → Ghosts S → S → S → Result (Option Named) AuditError → Type 0
+NextCall store now new result = OneCall store now new result error.StoreFault
 
--- one call adds one at most
-one_at_most : {S T E : Type 0} (store : Ghosts S) (b c : S) (result : Result T E) (failed : E) → OneCall store b c result failed → store.calls c ≤ store.calls b + 1
-one_at_most store b c (Ok x) failed one = omega (arith, one.counted)
-one_at_most store b c (Err e) failed one = ⊎_elim (λ more. omega (arith, more)) (λ same. omega (arith, same)) one.counted_err
+module _ {S : Type 0} (store : Ghosts S) (old now new : S) (after : Option Name) (cells : List Named) (read : HasRead store old now after cells)
+    (present : IsTrue store.tells → store.trail now (store.calls now) ≡ store.content now)
+    (result : Result (Option Named) AuditError) (one : NextCall store now new result) (same : IsTrue store.tells → store.content new ≡ store.content now) where
+  only : IsTrue store.tells → OnlyReads store old new
+  only told = reads_call store old now new result error.StoreFault told (present told) (read.reads told) one (same told)
 
--- one call for each cell that was read, and one more
-pub reads_once : {S T E : Type 0} (store : Ghosts S) (old now new : S) (after : Option Name) (cells : List Named) (result : Result T E) (failed : E)
-    → HasRead store old now after cells → OneCall store now new result failed → ReadsOnce store old new
-reads_once store old now new after cells result failed read one =
-    let last = one_at_most store now new result failed one in
-    record {
-      each = λ told. omega (arith, read.made, last, listed_few (store.content old) after cells (read.listed told));
-      most = omega (arith, read.made, read.few, last);
+  -- one call adds one at most
+  one_at_most : (r : Result (Option Named) AuditError) → NextCall store now new r → store.calls new ≤ store.calls now + 1
+  one_at_most (Ok x) it = omega (arith, it.counted)
+  one_at_most (Err e) it = ⊎_elim (λ more. omega (arith, more)) (λ none. omega (arith, none)) it.counted_err
+
+  -- one more was called, and the reading ended so
+  pub reads_whole : {T : Type 0} (outcome : Result T AuditError) → (IsErrOf outcome error.StoreFault → IsErrOf result error.StoreFault)
+      → (IsErrOf result error.StoreFault → IsErrOf outcome error.StoreFault) → ReadsWhole store old new outcome
+  reads_whole outcome failed refused =
+      let last = one_at_most result one in
+      record {
+        only = only;
+        go_on = call_after store old now new result error.StoreFault read.go_on one;
+        each = λ told. omega (arith, read.made, last, listed_few (store.content old) after cells (read.listed told));
+        most = omega (arith, read.made, read.few, last);
+        fault = λ e. rose_before read.go_on.later (one.fault (failed e));
+        still = ⊎_elim (λ e. inl (refused e)) (λ e. inr (e ∙ read.still)) one.still;
+      }
+
+  -- it was refused
+  pub reads_refused : {T : Type 0} (why : AuditError) → result ≡ Err why → ReadsWhole {T = T} store old new (Err why)
+  reads_refused error.StoreFault is = reads_whole (Err error.StoreFault) (λ e. is) (λ e. refl)
+  reads_refused error.TooMany is = reads_whole (Err error.TooMany) (λ e. absurd (cc)) (λ e. absurd (cc))
+  reads_refused error.OutOfMemory is = reads_whole (Err error.OutOfMemory) (λ e. absurd (cc)) (λ e. absurd (cc))
+  reads_refused (error.Unsound rule at) is = reads_whole (Err (error.Unsound rule at)) (λ e. absurd (cc)) (λ e. absurd (cc))
+
+  -- it came through
+  pub reads_answered : {T : Type 0} (found : Option Named) (outcome : Result T AuditError) → result ≡ Ok found → (IsErrOf outcome error.StoreFault → ⊥) → ReadsWhole store old new outcome
+  reads_answered found outcome is unfailed = reads_whole outcome (λ e. absurd (unfailed e)) (λ e. absurd (cc))
+
+  module _ (found : Named) (is : result ≡ Ok (Some found)) where
+    ok : NextCall store now new (Ok (Some found))
+    ok = subst (NextCall store now new) is one
+
+    -- one cell more was read
+    pub reads_more : is_past after found.name ≡ true → may_stand found.name found.cell ≡ true
+        → (IsTrue store.tells → Some found ≡ option_map named (first_past after (store.content now)))
+        → IsExchange store now (Exchange.Lists after (Ok (Some found))) new → length cells < 200000 → HasRead store old new (Some found.name) (cells ++ found ∷ [])
+    reads_more past kind next asked less = record {
+      listed = λ told. lists_more (store.content old) after cells found (read.listed told)
+          (subst (λ (held : Content). Some found ≡ option_map named (first_past after held)) ((read.reads told).same) (next told));
+      lists = Lists.Then now new after cells found read.lists asked;
+      reads = only;
+      go_on = call_after store old now new result error.StoreFault read.go_on one;
+      made = omega (arith, read.made, ok.counted, length-append cells (found ∷ []));
+      still = ⊎_elim (λ e. absurd (cc)) (λ e. e ∙ read.still) ok.still;
+      rises = rises_more after cells found read.rises past kind;
+      few = few_more cells found less;
     }
 
--- calls on the store, and then one that was refused
-pub fault_after : {S T U : Type 0} (store : Ghosts S) (a b c : S) (result : Result T AuditError) (why : AuditError) → result ≡ Err why → CallsGoOn store a b
-    → OneCall store b c result error.StoreFault → Calls {T = U} store a c (Err why) error.StoreFault
-fault_after store a b c result why is on one = record {
-  go_on = call_after store a b c result error.StoreFault on one;
-  fault = λ e. rose_before on.later (one.fault (cc));
-}
+    -- one too many
+    pub reads_many : IsExchange store now (Exchange.Lists after (Ok (Some found))) new → 200000 ≤ length cells → ListsMany store old new
+    reads_many asked many = record {
+      after = Some found.name;
+      cells = cells ++ found ∷ [];
+      lists = Lists.Then now new after cells found read.lists asked;
+      many = omega (arith, read.few, many, length-append cells (found ∷ []));
+    }

@@ -1,12 +1,10 @@
 //! An audit: is this store sound, and what does it mean?
 
 ghost use Rattle.std.specs.Prelude.{◌≡◌, ◌<◌, length, slice_index_or, IsTrue, IfOk, IfErr};
-ghost use Rattle.store_laws.specs.Reads.{OnlyReads};
-ghost use Rattle.store_trait.specs.Stores.{Calls};
 ghost use Rattle.store_trait.specs.declared.cell.Named.{Named as NamedValue};
-ghost use Rattle.txn_audit.specs.Audits.{IsAudited, HasFault, IsFlawOf, Means};
+ghost use Rattle.txn_audit.specs.Audits.{IsAudited, HasFault, IsFlawOf, IsShownAs, Means};
 ghost use Rattle.txn_audit.specs.Checks.{HoldBelow};
-ghost use Rattle.txn_audit.specs.Reading.{ReadsOnce};
+ghost use Rattle.txn_audit.specs.Reading.{ReadsWhole};
 ghost use Rattle.listed_cells.specs.Listing.{IsListing, content_of};
 
 use crate::checking::{Facts, Flaw, first_flaw};
@@ -33,9 +31,8 @@ pub struct Checked {
 pub fn audit<S: Store>(alloc: Global, store: &mut S) -> Result<Checked, AuditError>
     ensures sound { IsTrue S.tells → IfOk result (IsAudited (S.content store.old)) }
     ensures fault { IsTrue S.tells → IfErr result (HasFault (S.content store.old)) }
-    ensures reads { IsTrue S.tells → OnlyReads S.Store store.old store.new }
-    ensures once { ReadsOnce S.Store store.old store.new }
-    ensures kept { Calls S.Store store.old store.new result AuditError.StoreFault }
+    ensures kept { ReadsWhole S.Store store.old store.new result }
+    ensures shown { IsShownAs S.Store store.old store.new result }
 {
     let cells = list_cells(alloc, store)?;
     let docs = check(alloc, cells.as_slice())?;

@@ -1,14 +1,15 @@
 //! The cells of a store, by one call for each and one more.
 
-ghost use Rattle.std.specs.Prelude.{◌≡◌, ◌<◌, ◌≤◌, IsTrue, IfOk, IfErr, IfSome, IsErrOf, length, map};
+ghost use Rattle.std.specs.Prelude.{◌≡◌, ◌<◌, ◌≤◌, Ok, IsTrue, IfOk, IfErr, IfSome, IsErrOf, length, map};
 ghost use Rattle.std.specs.FinMap.{entries};
 ghost use Rattle.std.specs.Option.{option_copied, option_map};
-ghost use Rattle.store_laws.specs.Reads.{OnlyReads};
 ghost use Rattle.store_trait.specs.Contents.{first_past, is_past, named};
 ghost use Rattle.store_trait.specs.Names.{may_stand};
-ghost use Rattle.store_trait.specs.Stores.{Calls, OneCall};
+ghost use Rattle.store_trait.specs.Calls.Exchange.{Lists};
+ghost use Rattle.store_trait.specs.Exchanges.{IsExchange};
+ghost use Rattle.store_trait.specs.Stores.{OneCall};
 ghost use Rattle.txn_audit.specs.Errors.{IsOfCall, IsOfReading};
-ghost use Rattle.txn_audit.specs.Reading.{ReadsOnce};
+ghost use Rattle.txn_audit.specs.Reading.{IsShown, ReadsWhole};
 ghost use Rattle.listed_cells.specs.Listing.{IsListing};
 
 use crate::error::AuditError;
@@ -27,9 +28,8 @@ pub fn list_cells<S: Store>(alloc: Global, store: &mut S) -> Result<Items<Named>
     ensures few { IfOk result (λ cells. length cells ≤ 200000) }
     ensures too_many { IsTrue S.tells → IsErrOf result AuditError.TooMany →
         200000 < length (entries (S.content store.old)) }
-    ensures reads { IsTrue S.tells → OnlyReads S.Store store.old store.new }
-    ensures once { ReadsOnce S.Store store.old store.new }
-    ensures kept { Calls S.Store store.old store.new result AuditError.StoreFault }
+    ensures kept { ReadsWhole S.Store store.old store.new result }
+    ensures shown { IsShown S.Store store.old store.new result }
     ensures other { IfErr result IsOfReading }
 {
     let mut cells = Items::new(alloc);
@@ -58,6 +58,8 @@ fn next_past<S: Store>(
         (λ it. IsTrue (may_stand it.name it.cell))) }
     ensures same { IsTrue S.tells → S.content store.new ≡ S.content store.old }
     ensures call { OneCall S.Store store.old store.new result AuditError.StoreFault }
+    ensures asked { IfOk result (λ found. IsExchange S.Store store.old
+        (Lists (option_copied after.entry) (Ok found)) store.new) }
     ensures other { IfErr result IsOfCall }
 {
     Ok(store.next(alloc, after)?)
