@@ -1,7 +1,6 @@
 -- How a call begins.
-use Rattle.std.proofs.Common.{◌≡◌, ◌≤◌, ℕ, Bool, true, false, List, [], ◌++◌, IsTrue, Result, Err, ◌⊎◌, ⊎_elim, inl, inr, refl, sym, ap, ◌∙◌, subst, arith}
+use Rattle.std.proofs.Common.{◌≡◌, ◌≤◌, ℕ, Bool, true, List, [], ◌++◌, IsTrue, Result, Err, ◌⊎◌, ⊎_elim, inl, inr, refl, sym, ◌∙◌, subst, arith}
 use Rattle.std.proofs.lemmas.List.{append-nil}
-use Rattle.store_trait.specs.Contents.{Content}
 use Rattle.store_trait.specs.declared.store.Store.{Ghosts}
 use Rattle.txn_io.specs.Unread.{Unread}
 use Rattle.txn_runner.specs.Calm.{IsCalm}
@@ -15,7 +14,7 @@ use Rattle.txn_play.specs.declared.session.Session.{Session}
 use Rattle.txn_play.proofs.Opening.{none_is_empty}
 use Rattle.txn_play.proofs.Sessions.{opens_calm, nothing_waits}
 use Rattle.txn_cli.specs.Call.{HasStopped, Held, Taken, holding_in, start}
-use Rattle.txn_cli.specs.Output.{Writing, answers_text}
+use Rattle.txn_cli.specs.Output.{Writing}
 use Rattle.txn_cli.specs.Script.{Plays}
 use Rattle.txn_cli.specs.Faults.{OrShort, fault_of_stop}
 use Rattle.txn_play.specs.declared.refusal.Refusal.{Refusal}
@@ -85,6 +84,7 @@ failed why = Err why
 pub look_fault : (why : Refusal) (f : Fault) → (failed why ≡ failed refusal.Store) ⊎ (failed why ≡ failed refusal.OutOfMemory) → OrShort (fault_of_stop 1 (stop.Refused why)) f → (f ≡ fault.Store) ⊎ (f ≡ fault.OutOfMemory)
 look_fault refusal.Store f h is = inl is
 look_fault refusal.OutOfMemory f h is = inr is
+look_fault (refusal.Found found) f h is = absurd (⊎_elim (λ e. cc) (λ e. cc) h)
 look_fault (refusal.Objected o) f h is = absurd (⊎_elim (λ e. cc) (λ e. cc) h)
 look_fault (refusal.Spent x) f h is = absurd (⊎_elim (λ e. cc) (λ e. cc) h)
 look_fault (refusal.Broken x) f h is = absurd (⊎_elim (λ e. cc) (λ e. cc) h)

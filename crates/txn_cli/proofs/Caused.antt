@@ -10,6 +10,8 @@ use Rattle.txn_io.specs.Unread.{IsRefused, Unread}
 use Rattle.store_laws.proofs.trails.CallsMade.{rose_before}
 use Rattle.txn_play.proofs.Causing.{caused_before}
 use Rattle.txn_play.specs.Sessions.{IsCaused as IsCausedIn}
+use Rattle.txn_play.specs.declared.finding.Finding.{Finding}
+use Rattle.txn_play.specs.declared.finding.Finding.TheVariants as finding
 use Rattle.txn_play.specs.declared.refusal.Refusal.TheVariants as refusal
 use Rattle.txn_play.specs.Progress.{Progress, is_nothing, objection_at_end}
 use Rattle.txn_play.specs.declared.objection.Objection.{Objection}
@@ -17,26 +19,28 @@ use Rattle.txn_play.specs.declared.objection.Objection.TheVariants as objection
 use Rattle.txn_play.specs.declared.session.Session.{Session}
 use Rattle.txn_script.specs.Faults.{fault_text as script_text}
 use Rattle.txn_script.specs.Statements.{line_in}
-use Rattle.txn_cli.specs.Causes.{Circumstances, Counts, HasRisen, IsCaused, MayBeRefused, circumstances, counts, told_script}
+use Rattle.txn_cli.specs.Causes.{Circumstances, Counts, HasRisen, IsCaused, MayBeFound, MayBeRefused, circumstances, counts, told_script}
 use Rattle.txn_cli.specs.Faults.{OrShort, fault_of_line, fault_of_stop, objection_text, refusal_in_stop}
-use Rattle.txn_cli.specs.Line.{MayStop, StoppedFor}
-use Rattle.txn_cli.specs.Script.{HasLines, MayRefuse, next_of}
+use Rattle.txn_cli.specs.Line.{MayStop, StoppedWaiting}
+use Rattle.txn_cli.specs.Script.{HasLines, MayFind, MayRefuse, next_of}
 use Rattle.txn_cli.specs.declared.fault.Fault.{Fault}
 use Rattle.txn_cli.specs.declared.fault.Fault.TheVariants as fault
 use Rattle.txn_cli.specs.declared.stop.Stop.{Stop}
 use Rattle.txn_cli.specs.declared.stop.Stop.TheVariants as stop
 use Rattle.txn_cli.proofs.Coming.{IsReadTo, next_to}
 
--- what comes next may be refused by the text of what stopped it, where that has one
+-- what comes next may be refused by the text of what stopped it, where that has one, or by what an audit finds
 abbrev pub MayRefuseBy : Result (Option (List ℕ)) LineFault → Stop → Type 0
 MayRefuseBy next (stop.Misread why) = MayRefuse next (script_text why)
 MayRefuseBy next (stop.Refused (refusal.Objected why)) = MayRefuse next (objection_text why)
+MayRefuseBy next (stop.Refused (refusal.Found found)) = MayFind next found
 MayRefuseBy next _ = Unit {0}
 
 -- a line, and the end, by what stopped them
 pub line_by : (line : List ℕ) (why : Stop) → MayStop (line_in line) why → MayRefuseBy (Ok (Some line)) why
 line_by line (stop.Misread w) h = h
 line_by line (stop.Refused (refusal.Objected o)) h = h
+line_by line (stop.Refused (refusal.Found found)) h = h
 line_by line (stop.Refused refusal.Store) h = tt
 line_by line (stop.Refused refusal.OutOfMemory) h = tt
 line_by line (stop.Refused (refusal.Spent e)) h = tt
@@ -53,9 +57,10 @@ not_built p o h = by (is_nothing p.waiting) p.documents_alone h
     by false true e = absurd (cc e)
     by false false e = cc e
 
-pub end_by : (p : Progress) (why : Stop) → StoppedFor (objection_at_end p) why → MayRefuseBy (Ok None) why
-end_by p (stop.Misread w) h = elim h [ ]
-end_by p (stop.Refused (refusal.Objected o)) h = ap objection_text (not_built p o h)
+pub end_by : (p : Progress) (why : Stop) → StoppedWaiting p why → MayRefuseBy (Ok None) why
+end_by p (stop.Misread w) h = elim h.1 [ ]
+end_by p (stop.Refused (refusal.Objected o)) h = ap objection_text (not_built p o h.1)
+end_by p (stop.Refused (refusal.Found found)) h = tt
 end_by p (stop.Refused refusal.Store) h = tt
 end_by p (stop.Refused refusal.OutOfMemory) h = tt
 end_by p (stop.Refused (refusal.Spent e)) h = tt
@@ -78,6 +83,16 @@ module _ {S I : Type 0} (store : Ghosts S) (source : SourceGhosts I) (in_grammar
       by true lines h = record { count = n; next = refl; there = lines refl; may = h refl }
       by false lines h = tt
 
+  -- the same of what an audit finds
+  found_told : (found : Finding) → (IsTrue source.tells → MayFind (next_of n (source.rest begun_input)) found)
+      → IfSome (told_script source begun_input) (MayBeFound found)
+  found_told found may = by source.tells there may
+    where
+      by : (tells : Bool) → (IsTrue tells → HasLines n (source.rest begun_input)) → (IsTrue tells → MayFind (next_of n (source.rest begun_input)) found)
+          → IfSome (cond tells (Some (source.rest begun_input)) None) (MayBeFound found)
+      by true lines h = record { count = n; there = lines refl; may = h refl }
+      by false lines h = tt
+
   short : IsCaused store call fault.OutOfMemory
   short = record { shown = tt; reason = λ told. tt }
 
@@ -96,6 +111,8 @@ module _ {S I : Type 0} (store : Ghosts S) (source : SourceGhosts I) (in_grammar
       → (why ≡ stop.Output → HasRisen (counts mid output.after)) → IsCaused store call f
   caused_stop between mid made le (stop.Misread w) f is may h rose = by_text (script_text w) f is may
   caused_stop between mid made le (stop.Refused (refusal.Objected o)) f is may h rose = by_text (objection_text o) f is may
+  caused_stop between mid made le (stop.Refused (refusal.Found (finding.Unsound rule name))) f is may h rose = subst (IsCaused store call) (sym is) (record { shown = found_told (finding.Unsound rule name) may; reason = h.reason })
+  caused_stop between mid made le (stop.Refused (refusal.Found finding.TooManyCells)) f is may h rose = subst (IsCaused store call) (sym is) (record { shown = found_told finding.TooManyCells may; reason = h.reason })
   caused_stop between mid made le (stop.Refused refusal.OutOfMemory) f is may h rose = subst (IsCaused store call) (sym is) short
   caused_stop between mid made le (stop.Refused refusal.Store) f is may h rose = subst (IsCaused store call) (sym is) (record { shown = rose_before made.later (h.fault refl); reason = λ told. tt })
   caused_stop between mid made le (stop.Refused (refusal.Spent e)) f is may h rose = subst (IsCaused store call) (sym is) (record { shown = caused_before store old between.store next.store (refusal.Spent e) made.chain h.cause; reason = h.reason })

@@ -1,10 +1,9 @@
 -- How far a call has come in its script, from line to line.
-use Rattle.std.proofs.Common.{◌≡◌, ◌≢◌, ◌≤◌, ℕ, ◌+◌, arith, Bool, true, false, List, [], ◌∷◌, ◌++◌, Option, Some, None, Result, Ok, IsTrue, ⊎_elim, refl, sym, ap, ◌∙◌, subst, add-one}
-use Rattle.std.proofs.lemmas.List.{append-nil}
+use Rattle.std.proofs.Common.{◌≡◌, ◌≢◌, ◌≤◌, ℕ, ◌+◌, arith, Bool, true, List, [], ◌∷◌, ◌++◌, Option, Some, None, Result, Ok, IsTrue, ⊎_elim, refl, sym, ap, ◌∙◌, subst, add-one}
 use Rattle.store_trait.specs.Contents.{Content}
 use Rattle.store_trait.specs.Stores.{CallsGoOn}
 use Rattle.store_trait.specs.declared.store.Store.{Ghosts}
-use Rattle.txn_io.specs.Lines.{LinesView, after_line, limit_passed, line_cost, reading, unless_passed}
+use Rattle.txn_io.specs.Lines.{LinesView, after_line, limit_passed, reading, unless_passed}
 use Rattle.txn_io.specs.declared.lines.LineFault.{LineFault}
 use Rattle.txn_io.specs.Unread.{Unread, HasRead, unread}
 use Rattle.txn_io.specs.declared.source.Source.{Ghosts as SourceGhosts}
@@ -16,7 +15,7 @@ use Rattle.txn_play.specs.declared.answer.Answer.{Answer}
 use Rattle.txn_play.specs.declared.answer.Answer.TheVariants.{}
 use Rattle.txn_play.specs.declared.session.Session.{Session}
 use Rattle.txn_cli.specs.Call.{start}
-use Rattle.txn_cli.specs.Line.{Between, HasDone, HasDoneLine, HasRunFirst, RunsFirst, up_to}
+use Rattle.txn_cli.specs.Line.{Between, HasDone, HasDoneLine, HasRunFirst, RunsFirst}
 use Rattle.txn_cli.specs.Output.{Writing, Wrote, answer_text, answers_text, writing}
 use Rattle.txn_cli.specs.Script.{HasLines, Plays, PlaysAs, after_lines, line_lets_run, next_lets_run, next_of, taken_by}
 use Rattle.txn_cli.proofs.Scripts.{first_as, lets_next, plays_still, wrote_more, wrote_none}

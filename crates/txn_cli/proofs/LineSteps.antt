@@ -1,8 +1,7 @@
 -- A line in two steps: a batch that is let run first, and the line itself.
-use Rattle.std.proofs.Common.{◌≡◌, ◌≢◌, ◌≤◌, ◌⊎◌, ⊎_elim, inl, inr, ℕ, Bool, true, false, List, [], ◌∷◌, ◌++◌, ◌==◌, Option, Some, None, Result, Ok, Err, OnOk, IfErr, IfOk, IsTrue, length, refl, sym, ap, ◌∙◌, subst, arith, cond}
-use Rattle.std.specs.Prelude.{IfSome}
+use Rattle.std.proofs.Common.{◌≡◌, ◌≢◌, ◌≤◌, ◌⊎◌, ⊎_elim, inl, inr, ℕ, Bool, true, false, List, [], ◌∷◌, ◌==◌, Option, Some, None, Result, Ok, Err, OnOk, IfErr, IsTrue, length, refl, sym, ap, ◌∙◌, subst, arith, cond}
+use Rattle.std.specs.Prelude.{IfSome, ◌&&◌, ◌||◌, not}
 use Rattle.std.proofs.lemmas.List.{append-nil}
-use Rattle.store_trait.specs.Contents.{Content}
 use Rattle.store_trait.specs.Exchanges.{Exchanged}
 use Rattle.store_trait.specs.Stores.{CallsGoOn}
 use Rattle.store_trait.specs.declared.store.Store.{Ghosts}
@@ -11,9 +10,8 @@ use Rattle.txn_script.specs.Faults.{fault_text as script_text}
 use Rattle.txn_script.specs.declared.fault.ScriptFault.{ScriptFault}
 use Rattle.txn_script.specs.declared.fault.ScriptFault.TheVariants as script_fault
 use Rattle.txn_script.specs.declared.statement.Statement.{Statement}
-use Rattle.txn_script.specs.declared.statement.Statement.TheVariants as statement
 use Rattle.txn_play.specs.Remains.{Stays}
-use Rattle.txn_play.specs.Progress.{Progress, Does, is_nothing, lets_run, objection_at_end, objection_to, runs_batch, unless_alone}
+use Rattle.txn_play.specs.Progress.{Progress, Does, is_nothing, lets_run, may_find, may_find_at, objection_at_end, objection_to, runs_batch, unless_alone}
 use Rattle.txn_play.specs.Sessions.{HasEnough, IsCaused, IsKept, Stands, at, holding}
 use Rattle.txn_play.proofs.Causing.{caused_before}
 use Rattle.store_laws.proofs.trails.CallsMade.{calls_none, calls_then, rose_before}
@@ -21,6 +19,7 @@ use Rattle.txn_runner.specs.Numbers.{Suffices}
 use Rattle.txn_runner.specs.declared.waiting.Waiting.{Waiting}
 use Rattle.txn_play.specs.declared.answer.Answer.{Answer}
 use Rattle.txn_play.specs.declared.answer.Answer.TheVariants.{Nothing}
+use Rattle.txn_play.specs.declared.finding.Finding.{Finding}
 use Rattle.txn_play.specs.declared.objection.Objection.{Objection}
 use Rattle.txn_play.specs.declared.refusal.Refusal.{Refusal}
 use Rattle.txn_play.specs.declared.refusal.Refusal.TheVariants as refusal
@@ -28,10 +27,10 @@ use Rattle.txn_play.specs.declared.session.Session.{Session}
 use Rattle.txn_play.proofs.BatchRuns.{left_more}
 use Rattle.txn_cli.specs.Causes.{counts}
 use Rattle.txn_cli.specs.Faults.{objection_text, refusal_in_stop, stop_of_reading}
-use Rattle.txn_cli.specs.Line.{Between, Deed, HasDone, HasDoneCut, HasDoneIdly, HasDoneLine, HasRunFirst, HasStoppedLine, IsKeptLine, IsOfStatement, LeftBy, MayStop, RefusedBy, RunsFirst, RunsWaiting, StoppedFirst, StoppedFor, StopsFor, performing, playing, running, running_first, up_to, from}
+use Rattle.txn_cli.specs.Line.{Between, Deed, HasDone, HasDoneLine, HasRunFirst, HasStoppedLine, IsKeptLine, IsOfStatement, LeftBy, MayStop, RefusedBy, RunsFirst, RunsWaiting, StoppedByFinding, StoppedFirst, StoppedFor, StopsFor, performing, playing, running, running_first, up_to, from}
 use Rattle.txn_cli.specs.Output.{Writing, Wrote, WrotePart, answer_text, prints}
 use Rattle.txn_cli.proofs.Scripts.{first_as}
-use Rattle.txn_cli.specs.Script.{MayRefuseAs, PlaysAs, RefusedAs, RefusedFor, Stated, line_lets_run, line_may_run}
+use Rattle.txn_cli.specs.Script.{MayFindAs, MayRefuseAs, PlaysAs, RefusedAs, RefusedFor, Stated, line_lets_run, line_may_run}
 use Rattle.txn_cli.specs.declared.stop.Stop.{Stop}
 use Rattle.txn_cli.specs.declared.stop.Stop.TheVariants as stop
 
@@ -58,6 +57,7 @@ left_by_more : {S : Type 0} (store : Ghosts S) (a b : Deed) (old new : Session S
 left_by_more store a b old new w (stop.Misread e) may does h = h
 left_by_more store a b old new w stop.Output may does h = record { done = record { answer = h.done.answer; did = does (at store old) (at store new) h.done.answer h.done.did }; part = h.part }
 left_by_more store a b old new w (stop.Refused (refusal.Objected o)) may does h = h
+left_by_more store a b old new w (stop.Refused (refusal.Found found)) may does h = h
 left_by_more store a b old new w (stop.Refused refusal.Store) may does h = (left_more a.may_run b.may_run old.batch (store.trail new.store) (holding store old) (holding store new) refusal.Store may h.0, h.1)
 left_by_more store a b old new w (stop.Refused refusal.OutOfMemory) may does h = (
   ⊎_elim (λ l. inl (left_more a.may_run b.may_run old.batch (store.trail new.store) (holding store old) (holding store new) refusal.OutOfMemory may l))
@@ -83,6 +83,7 @@ left_by_write store deed old new w answer (Err stop.Output) did kind part none l
 left_by_write store deed old new w answer (Err (stop.Refused refusal.OutOfMemory)) did kind part none lines = (inr (record { done = record { answer = answer; did = did }; lines = lines refl }), none refl)
 left_by_write store deed old new w answer (Err (stop.Misread e)) did kind part none lines = absurd (⊎_elim (λ h. cc) (λ h. cc) kind)
 left_by_write store deed old new w answer (Err (stop.Refused (refusal.Objected o))) did kind part none lines = absurd (⊎_elim (λ h. cc) (λ h. cc) kind)
+left_by_write store deed old new w answer (Err (stop.Refused (refusal.Found found))) did kind part none lines = absurd (⊎_elim (λ h. cc) (λ h. cc) kind)
 left_by_write store deed old new w answer (Err (stop.Refused refusal.Store)) did kind part none lines = absurd (⊎_elim (λ h. cc) (λ h. cc) kind)
 left_by_write store deed old new w answer (Err (stop.Refused (refusal.Spent e))) did kind part none lines = absurd (⊎_elim (λ h. cc) (λ h. cc) kind)
 left_by_write store deed old new w answer (Err (stop.Refused (refusal.Broken e))) did kind part none lines = absurd (⊎_elim (λ h. cc) (λ h. cc) kind)
@@ -124,21 +125,40 @@ kept_then store old between new a b c result calls le enough then = record {
   output = record { later = omega (arith, le, then.output.later); fault = λ is. rose_before le (then.output.fault is) };
 }
 
--- what stands against a statement refuses its line
-refused_by : (s : Statement) (p : Progress) (why : Stop) → StoppedFor (objection_to p s) why → RefusedBy (Ok (Some s)) p why
-refused_by s p (stop.Misread e) h = elim h [ ]
-refused_by s p stop.Output h = tt
-refused_by s p (stop.Refused (refusal.Objected o)) h = subst (λ (against : Option Objection). RefusedFor against (objection_text o)) (sym h) refl
-refused_by s p (stop.Refused refusal.Store) h = tt
-refused_by s p (stop.Refused refusal.OutOfMemory) h = tt
-refused_by s p (stop.Refused (refusal.Spent e)) h = tt
-refused_by s p (stop.Refused (refusal.Broken e)) h = tt
-refused_by s p (stop.Refused (refusal.Repeated id)) h = tt
+-- what an audit finds may refuse a statement where it may refuse it wherever it stands
+finds_at : (p : Progress) (s : Statement) (found : Finding) → may_find s found ≡ true → may_find_at p s found ≡ true
+finds_at p s found may = by (lets_run s && not (is_nothing p.waiting))
+  where
+    by : (b : Bool) → cond b true (may_find s found) ≡ true
+    by true = refl
+    by false = may
+
+-- or where it lets a batch run first that waits
+finds_first : (p : Progress) (s : Statement) (found : Finding) → lets_run s ≡ true → is_nothing p.waiting ≡ false → may_find_at p s found ≡ true
+finds_first p s found lets waits = rw (lets, waits) refl
+
+-- what stands against a statement, or an audit finds, refuses its line
+refused_by : (s : Statement) (p : Progress) (why : Stop) → StoppedFor (objection_to p s) why
+    → ((found : Finding) → why ≡ stop.Refused (refusal.Found found) → may_find_at p s found ≡ true) → RefusedBy (Ok (Some s)) p why
+refused_by s p (stop.Misread e) h finds = elim h [ ]
+refused_by s p stop.Output h finds = tt
+refused_by s p (stop.Refused (refusal.Found found)) h finds = finds found refl
+refused_by s p (stop.Refused (refusal.Objected o)) h finds = subst (λ (against : Option Objection). RefusedFor against (objection_text o)) (sym h) refl
+refused_by s p (stop.Refused refusal.Store) h finds = tt
+refused_by s p (stop.Refused refusal.OutOfMemory) h finds = tt
+refused_by s p (stop.Refused (refusal.Spent e)) h finds = tt
+refused_by s p (stop.Refused (refusal.Broken e)) h finds = tt
+refused_by s p (stop.Refused (refusal.Repeated id)) h finds = tt
+
+-- the same of one that was found for it
+found_by : (s : Statement) (p : Progress) (why : Stop) → StoppedByFinding s why → (found : Finding) → why ≡ stop.Refused (refusal.Found found) → may_find_at p s found ≡ true
+found_by s p why h found is = finds_at p s found (subst (StoppedByFinding s) is h)
 
 first_for : (p : Progress) (s : Statement) (why : Stop) → StoppedFirst (lets_run s) p why → StoppedFor (objection_to p s) why
-first_for p s (stop.Misread e) h = elim h.1 [ ]
+first_for p s (stop.Misread e) h = elim h.1.1 [ ]
 first_for p s stop.Output h = tt
-first_for p s (stop.Refused (refusal.Objected o)) h = against_first p s o h.0 h.1
+first_for p s (stop.Refused (refusal.Objected o)) h = against_first p s o h.0 h.1.1
+first_for p s (stop.Refused (refusal.Found found)) h = tt
 first_for p s (stop.Refused refusal.Store) h = tt
 first_for p s (stop.Refused refusal.OutOfMemory) h = tt
 first_for p s (stop.Refused (refusal.Spent e)) h = tt
@@ -194,7 +214,7 @@ module _ {S : Type 0} (store : Ghosts S) (line : List ℕ) where
     pub stops_first : (old new : Session S) (w : Writing) (why : Stop) → StoppedFirst (lets_run s) (at store old) why
         → LeftBy store (running_first (lets_run s)) old new w why → HasStoppedLine store line old new w why
     stops_first old new w why refused l = HasStoppedLine.First
-        (subst (λ (r : Result (Option Statement) ScriptFault). RefusedBy r (at store old) why) (sym read) (refused_by s (at store old) why (first_for (at store old) s why refused)))
+        (subst (λ (r : Result (Option Statement) ScriptFault). RefusedBy r (at store old) why) (sym read) (refused_by s (at store old) why (first_for (at store old) s why refused) (λ found is. finds_first (at store old) s found refused.0 refused.1.0)))
         (subst (λ (r : Result (Option Statement) ScriptFault). LeftBy store (running_first (line_lets_run r)) old new w why) (sym read) l)
 
     module _ (old new : Session S) (w : Writing) (between : Between S) (ran : HasDone store (RunsFirst (lets_run s)) old between.session (up_to w between))
@@ -217,11 +237,11 @@ module _ {S : Type 0} (store : Ghosts S) (line : List ℕ) where
       done_line (Err e) done = tt
 
       -- the second step is stopped
-      pub stops_then : {T : Type 0} (result : Result T Stop) → IfErr result (StoppedFor (objection_to (at store between.session) s))
+      pub stops_then : {T : Type 0} (result : Result T Stop) → IfErr result (StoppedFor (objection_to (at store between.session) s)) → IfErr result (StoppedByFinding s)
           → IfErr result (LeftBy store (performing s) between.session new (from w between)) → IfErr result (HasStoppedLine store line old new w)
-      stops_then (Ok x) refused l = tt
-      stops_then (Err why) refused l = HasStoppedLine.Then between first
-          (subst (λ (r : Result (Option Statement) ScriptFault). RefusedBy r (at store between.session) why) (sym read) (refused_by s (at store between.session) why refused))
+      stops_then (Ok x) refused found l = tt
+      stops_then (Err why) refused found l = HasStoppedLine.Then between first
+          (subst (λ (r : Result (Option Statement) ScriptFault). RefusedBy r (at store between.session) why) (sym read) (refused_by s (at store between.session) why refused (found_by s (at store between.session) why found)))
           (left_by_more store (performing s) (playing line) between.session new (from w between) why
           (λ runs. ap line_may_run read ∙ runs_may s runs) (λ p q answer does. subst (λ (r : Result (Option Statement) ScriptFault). PlaysAs r p q answer) (sym read) does) l)
 
@@ -277,24 +297,33 @@ may_misread stated why read = ⊎_elim
     (λ memory. subst (λ (e : ScriptFault). MayStop stated (stop_of_reading e)) (sym memory) tt)
     (reads_as why)
 
-may_stated : (stated : Stated) (s : Statement) (why : Stop) → stated ≡ Ok (Some s) → IsOfStatement why → MayStop stated why
-may_stated stated s (stop.Misread w) read of = elim of [ ]
-may_stated stated s (stop.Refused (refusal.Objected o)) read of = subst (λ (r : Stated). MayRefuseAs r (objection_text o)) (sym read) (record { why = o; is = refl })
-may_stated stated s (stop.Refused refusal.Store) read of = tt
-may_stated stated s (stop.Refused refusal.OutOfMemory) read of = tt
-may_stated stated s (stop.Refused (refusal.Spent e)) read of = tt
-may_stated stated s (stop.Refused (refusal.Broken e)) read of = tt
-may_stated stated s (stop.Refused (refusal.Repeated id)) read of = tt
-may_stated stated s stop.Output read of = tt
+may_stated : (stated : Stated) (s : Statement) (why : Stop) → stated ≡ Ok (Some s) → IsOfStatement why
+    → ((found : Finding) → why ≡ stop.Refused (refusal.Found found) → MayFindAs (Ok (Some s)) found) → MayStop stated why
+may_stated stated s (stop.Misread w) read of finds = elim of [ ]
+may_stated stated s (stop.Refused (refusal.Found found)) read of finds = subst (λ (r : Stated). MayFindAs r found) (sym read) (finds found refl)
+may_stated stated s (stop.Refused (refusal.Objected o)) read of finds = subst (λ (r : Stated). MayRefuseAs r (objection_text o)) (sym read) (record { why = o; is = refl })
+may_stated stated s (stop.Refused refusal.Store) read of finds = tt
+may_stated stated s (stop.Refused refusal.OutOfMemory) read of finds = tt
+may_stated stated s (stop.Refused (refusal.Spent e)) read of finds = tt
+may_stated stated s (stop.Refused (refusal.Broken e)) read of finds = tt
+may_stated stated s (stop.Refused (refusal.Repeated id)) read of finds = tt
+may_stated stated s stop.Output read of finds = tt
 
-pub may_stop_first : (stated : Stated) (s : Statement) (lets : Bool) (p : Progress) (why : Stop) → stated ≡ Ok (Some s) → StoppedFirst lets p why → MayStop stated why
-may_stop_first stated s lets p why read h = may_stated stated s why read (of why h.1)
+pub may_stop_first : (stated : Stated) (s : Statement) (p : Progress) (why : Stop) → stated ≡ Ok (Some s) → StoppedFirst (lets_run s) p why → MayStop stated why
+may_stop_first stated s p why read h = may_stated stated s why read (of why h.1.1) (λ found is. ap (λ (b : Bool). b || may_find s found) h.0)
   where
     of : (w : Stop) → StoppedFor (objection_at_end p) w → IsOfStatement w
     of (stop.Misread w) h = h
     of (stop.Refused r) h = tt
     of stop.Output h = tt
 
-pub may_stop : (stated : Stated) (s : Statement) (result : Result (Unit {0}) Stop) → stated ≡ Ok (Some s) → IfErr result IsOfStatement → IfErr result (MayStop stated)
-may_stop stated s (Ok x) read h = tt
-may_stop stated s (Err why) read h = may_stated stated s why read h
+pub may_stop : (stated : Stated) (s : Statement) (result : Result (Unit {0}) Stop) → stated ≡ Ok (Some s) → IfErr result IsOfStatement → IfErr result (StoppedByFinding s) → IfErr result (MayStop stated)
+may_stop stated s (Ok x) read h found = tt
+may_stop stated s (Err why) read h found = may_stated stated s why read h (λ f is. either f (subst (StoppedByFinding s) is found))
+  where
+    either : (f : Finding) → may_find s f ≡ true → (lets_run s || may_find s f) ≡ true
+    either f may = by (lets_run s)
+      where
+        by : (b : Bool) → (b || may_find s f) ≡ true
+        by true = refl
+        by false = may

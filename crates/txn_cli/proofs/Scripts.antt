@@ -1,9 +1,8 @@
 -- How a script goes on by one line or by a batch.
-use Rattle.std.proofs.Common.{◌≡◌, ℕ, ◌+◌, ◌≤◌, arith, Bool, true, false, List, [], ◌∷◌, ◌++◌, Option, Some, None, Result, Ok, IsTrue, ◌⊎◌, inl, inr, refl, sym, ap, subst, ◌∙◌, add-one}
+use Rattle.std.proofs.Common.{◌≡◌, ℕ, ◌≤◌, arith, Bool, true, false, List, [], ◌∷◌, ◌++◌, Option, Some, None, Ok, IsTrue, ◌⊎◌, inl, inr, refl, ap, ◌∙◌}
 use Rattle.std.proofs.lemmas.List.{append-nil, flat_map_more}
 use Rattle.store_trait.specs.Contents.{Content}
-use Rattle.txn_io.specs.Lines.{first_line, after_line, line_cost, reading, unless_passed, limit_passed}
-use Rattle.txn_io.specs.Unread.{Unread, HasRead}
+use Rattle.txn_io.specs.Lines.{first_line, after_line, reading, unless_passed, limit_passed}
 use Rattle.txn_io.specs.declared.lines.LineFault.{LineFault}
 use Rattle.txn_runner.specs.declared.waiting.Waiting.{Waiting}
 use Rattle.txn_script.specs.Statements.{line_in}
@@ -12,7 +11,7 @@ use Rattle.txn_play.specs.declared.answer.Answer.{Answer}
 use Rattle.txn_play.specs.declared.answer.Answer.TheVariants.{Nothing}
 use Rattle.txn_cli.specs.Line.{RunsFirst, RunsWaiting}
 use Rattle.txn_cli.specs.Output.{answer_text, answers_text}
-use Rattle.txn_cli.specs.Script.{Follows, Plays, after_lines, line_lets_run, line_may_run, next_lets_run, next_may_run, next_of, taken_by}
+use Rattle.txn_cli.specs.Script.{Plays, line_lets_run, line_may_run, next_lets_run, next_may_run, next_of}
 
 unpassed : (passed : Option LineFault) (found line : Option (List ℕ)) → unless_passed passed found ≡ Ok line → found ≡ line
 unpassed None found line e = cc

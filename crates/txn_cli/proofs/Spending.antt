@@ -76,9 +76,9 @@ does (statement.Go plan) p q said n b runs = λ alone. bounds_more q n (ran p q 
 does (statement.Resume id) p q said n b none = elim none [ ]
 does statement.Prune p q said n b none = elim none [ ]
 does statement.Purge p q said n b none = elim none [ ]
-does statement.Audit p q said n b none = elim none [ ]
-does statement.Show p q said n b shown = told p q said _ n b shown
-does statement.Export p q said n b shown = told p q said _ n b shown
+does statement.Audit p q said n b heard = told p q said _ n b heard.tells
+does statement.Show p q said n b shown = told p q said _ n b shown.1
+does statement.Export p q said n b shown = told p q said _ n b shown.1
 does statement.Order p q said n b shown = told p q said _ n b shown
 
 plays_as : (r : Result (Option Statement) ScriptFault) (p q : Progress) (said : Answer) (n : ℕ) → BoundsAlone p n → PlaysAs r p q said → BoundsAlone q (n + 1)

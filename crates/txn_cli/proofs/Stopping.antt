@@ -1,5 +1,5 @@
 -- How a call stops: at a line, at the end of the input, or where no line is read.
-use Rattle.std.proofs.Common.{◌≡◌, ◌≢◌, ◌≤◌, ℕ, ◌+◌, Bool, true, false, List, [], ◌∷◌, ◌++◌, Option, Some, None, Result, Ok, Err, OnOk, IfErr, IfOk, IsTrue, ◌⊎◌, ⊎_elim, inl, inr, refl, sym, ap, ◌∙◌, subst, cond, codes, arith}
+use Rattle.std.proofs.Common.{◌≡◌, ◌≤◌, ℕ, ◌+◌, Bool, true, false, List, [], Option, Some, None, Result, Ok, Err, OnOk, IsTrue, ◌⊎◌, ⊎_elim, inl, inr, refl, sym, ap, ◌∙◌, subst, cond, codes, arith}
 use Rattle.std.specs.Prelude.{IfSome}
 use Rattle.std.proofs.lemmas.List.{append-nil}
 use Rattle.store_trait.specs.Contents.{Content}
@@ -10,28 +10,27 @@ use Rattle.txn_io.specs.Unread.{Unread, HasRead, IsRefused}
 use Rattle.txn_io.specs.declared.source.Source.{Ghosts as SourceGhosts}
 use Rattle.txn_io.specs.declared.lines.LineFault.{LineFault}
 use Rattle.txn_io.specs.declared.lines.LineFault.TheVariants as line_fault
-use Rattle.txn_runner.specs.declared.waiting.Waiting.{Waiting}
 use Rattle.txn_script.specs.Faults.{fault_text as script_text}
 use Rattle.txn_script.specs.Statements.{line_in}
 use Rattle.txn_script.specs.declared.fault.ScriptFault.{ScriptFault}
 use Rattle.txn_script.specs.declared.statement.Statement.{Statement}
-use Rattle.txn_script.specs.declared.fault.ScriptFault.TheVariants as script_fault
-use Rattle.txn_play.specs.Remains.{HasLeft, Holding, Stays}
-use Rattle.txn_play.specs.Progress.{Progress, RunsItself, holding_at, lets_run, objection_at_end, runs_batch}
+use Rattle.txn_play.specs.Remains.{HasLeft, Stays}
+use Rattle.txn_play.specs.Progress.{Progress, lets_run, runs_batch}
 use Rattle.txn_play.specs.Refusals.{IsUnspent}
 use Rattle.txn_play.specs.Sessions.{HasEnough, IsCaused, at, holding}
 use Rattle.txn_play.specs.declared.answer.Answer.{Answer}
+use Rattle.txn_play.specs.declared.finding.Finding.TheVariants as finding
 use Rattle.txn_play.specs.declared.objection.Objection.{Objection}
 use Rattle.txn_play.specs.declared.refusal.Refusal.{Refusal}
 use Rattle.txn_play.specs.declared.refusal.Refusal.TheVariants as refusal
 use Rattle.txn_play.specs.declared.session.Session.{Session}
 use Rattle.txn_play.proofs.BatchRuns.{left_more}
-use Rattle.txn_cli.specs.Call.{HasCut, HasDoneNext, HasPlayed, HasStopped, Held, IsOfNext, Leaves, LeavesShort, LeftIn, StopsWith, Taken, held, holding_in}
+use Rattle.txn_cli.specs.Call.{HasDoneNext, HasPlayed, HasStopped, Held, StopsWith, Taken, held}
 use Rattle.txn_cli.specs.Causes.{NoneSpent}
-use Rattle.txn_cli.specs.Faults.{OrShort, fault_of_line, fault_of_refusal, fault_of_stop, objection_text, refusal_in, refusal_in_stop}
-use Rattle.txn_cli.specs.Line.{Deed, HasDone, HasDoneCut, HasDoneIdly, HasStoppedLine, LeftBy, RefusedBy, RunsFirst, StoppedFor, RunsWaiting, playing, running, running_first}
+use Rattle.txn_cli.specs.Faults.{OrShort, fault_of_line, fault_of_stop, objection_text, refusal_in_stop}
+use Rattle.txn_cli.specs.Line.{Deed, HasDone, HasDoneIdly, HasStoppedLine, LeftBy, RefusedBy, StoppedWaiting, RunsWaiting, playing, running, running_first}
 use Rattle.txn_cli.specs.Output.{Writing, Wrote, answer_text, answers_text}
-use Rattle.txn_cli.specs.Script.{DoesNext, Plays, Reached, RefusedAs, RefusedFor, Refuses, line_lets_run, line_may_run, next_lets_run, next_may_run, next_of}
+use Rattle.txn_cli.specs.Script.{DoesNext, Finds, Reached, RefusedFor, Refuses, line_lets_run, line_may_run, next_lets_run, next_may_run, next_of}
 use Rattle.txn_cli.specs.declared.fault.Fault.{Fault}
 use Rattle.txn_cli.specs.declared.fault.Fault.TheVariants as fault
 use Rattle.txn_cli.specs.declared.stop.Stop.{Stop}
@@ -39,15 +38,17 @@ use Rattle.txn_cli.specs.declared.stop.Stop.TheVariants as stop
 use Rattle.txn_cli.proofs.Coming.{HasCome, comes_between, comes_first, comes_still, next_is}
 use Rattle.txn_cli.proofs.Scripts.{lets_next, may_next, read_out}
 
--- what comes next is refused by the text of what stopped it, where that has one
+-- what comes next is refused by the text of what stopped it, where that has one, or by what an audit finds
 abbrev pub RefusesBy : Result (Option (List ℕ)) LineFault → Progress → Stop → Type 0
 RefusesBy next p (stop.Misread why) = Refuses next p (script_text why)
 RefusesBy next p (stop.Refused (refusal.Objected why)) = Refuses next p (objection_text why)
+RefusesBy next p (stop.Refused (refusal.Found found)) = Finds next p found
 RefusesBy next p _ = Unit {0}
 
 of_line : (line : List ℕ) (p : Progress) (why : Stop) → RefusedBy (line_in line) p why → RefusesBy (Ok (Some line)) p why
 of_line line p (stop.Misread w) h = h
 of_line line p (stop.Refused (refusal.Objected o)) h = h
+of_line line p (stop.Refused (refusal.Found found)) h = h
 of_line line p (stop.Refused refusal.Store) h = tt
 of_line line p (stop.Refused refusal.OutOfMemory) h = tt
 of_line line p (stop.Refused (refusal.Spent e)) h = tt
@@ -60,6 +61,8 @@ pub unspent_stop : (number : ℕ) (why : Stop) (f : Fault) → OrShort (fault_of
 unspent_stop number (stop.Misread why) f is un = ⊎_elim (λ e. subst NoneSpent (sym e) tt) (λ e. subst NoneSpent (sym e) tt) is
 unspent_stop number stop.Output f is un = subst NoneSpent (sym is) tt
 unspent_stop number (stop.Refused (refusal.Objected o)) f is un = ⊎_elim (λ e. subst NoneSpent (sym e) tt) (λ e. subst NoneSpent (sym e) tt) is
+unspent_stop number (stop.Refused (refusal.Found (finding.Unsound rule name))) f is un = subst NoneSpent (sym is) tt
+unspent_stop number (stop.Refused (refusal.Found finding.TooManyCells)) f is un = subst NoneSpent (sym is) tt
 unspent_stop number (stop.Refused refusal.Store) f is un = subst NoneSpent (sym is) tt
 unspent_stop number (stop.Refused refusal.OutOfMemory) f is un = subst NoneSpent (sym is) tt
 unspent_stop number (stop.Refused (refusal.Spent e)) f is un = elim un [ ]
@@ -120,6 +123,10 @@ module _ {S : Type 0} (store : Ghosts S) (script untaken : List ℕ) (begun : Pr
       → IfSome (refusal_in_stop why) IsUnspent → LeftBy store deed session next step why → HasStopped taken begun end whole f
   stops_here (stop.Misread w) f is text unspent l = by_text (script_text w) f is text l.0 l.1
   stops_here (stop.Refused (refusal.Objected o)) f is text unspent l = by_text (objection_text o) f is text l.0 l.1
+  stops_here (stop.Refused (refusal.Found (finding.Unsound rule name))) f is found unspent l =
+      subst (HasStopped taken begun end whole) (sym is) (ends (fault.Unsound rule name) tt (record { next = found; left = l.0 }, unwritten l.1))
+  stops_here (stop.Refused (refusal.Found finding.TooManyCells)) f is found unspent l =
+      subst (HasStopped taken begun end whole) (sym is) (ends fault.TooManyCells tt (record { next = found; left = l.0 }, unwritten l.1))
   stops_here (stop.Refused refusal.OutOfMemory) f is text unspent l =
       subst (HasStopped taken begun end whole) (sym is) (ends fault.OutOfMemory tt (⊎_elim (λ held. inl (record { next = tt; left = left_next refusal.OutOfMemory held })) (λ d. inr (record { done = done_next d.done; lines = d.lines })) l.0, unwritten l.1))
   stops_here (stop.Refused refusal.Store) f is text unspent l =
@@ -197,12 +204,14 @@ module _ {S : Type 0} (store : Ghosts S) (script untaken : List ℕ) (begun : Pr
         writes = come.writes;
       }
 
-  -- the end is refused where a batch waits that may not run
-  refuses_end : (why : Stop) → StoppedFor (objection_at_end (at store session)) why → RefusesBy (next_of n script) (at store session) why
-  refuses_end (stop.Misread w) refused = elim refused [ ]
+  -- the end is refused where a batch waits that may not run, or over what an audit finds something against
+  refuses_end : (why : Stop) → StoppedWaiting (at store session) why → RefusesBy (next_of n script) (at store session) why
+  refuses_end (stop.Misread w) refused = elim refused.1 [ ]
   refuses_end (stop.Refused (refusal.Objected o)) refused =
       subst (λ (r : Result (Option (List ℕ)) LineFault). Refuses r (at store session) (objection_text o)) (sym at_end)
-      (subst (λ (against : Option Objection). RefusedFor against (objection_text o)) (sym refused) refl)
+      (subst (λ (against : Option Objection). RefusedFor against (objection_text o)) (sym refused.1) refl)
+  refuses_end (stop.Refused (refusal.Found found)) refused =
+      subst (λ (r : Result (Option (List ℕ)) LineFault). Finds r (at store session) found) (sym at_end) refused.0
   refuses_end (stop.Refused refusal.Store) refused = tt
   refuses_end (stop.Refused refusal.OutOfMemory) refused = tt
   refuses_end (stop.Refused (refusal.Spent e)) refused = tt
@@ -211,7 +220,7 @@ module _ {S : Type 0} (store : Ghosts S) (script untaken : List ℕ) (begun : Pr
   refuses_end stop.Output refused = tt
 
   pub stops_end : (why : Stop) (f : Fault) → OrShort (fault_of_stop (n + 1) why) f → IfSome (refusal_in_stop why) IsUnspent
-      → StoppedFor (objection_at_end (at store session)) why
+      → StoppedWaiting (at store session) why
       → LeftBy store running session next (record { tells = tells; before = now; after = after }) why
       → HasStopped (record { script = script; untaken = untaken }) begun (held store next.store next.runs.items) (record { tells = tells; before = before; after = after }) f
   stops_end why f is unspent refused l =

@@ -2,7 +2,7 @@
 use Rattle.std.proofs.Common.{◌≡◌, ◌≢◌, ◌≤◌, ℕ, Bool, true, List, [], ◌++◌, Option, Result, Ok, Err, OnOk, OnErr, IsTrue, ◌⊎◌, ⊎_elim, inl, inr, refl, sym, ap, ◌∙◌, subst}
 use Rattle.std.proofs.lemmas.List.{append-nil, append_assoc}
 use Rattle.txn_io.specs.Pour.{IsPartPut}
-use Rattle.txn_cli.specs.Call.{EndsWith, HasCut, HasDoneNext, HasStopped, HasRefused, Held, Leaves, LeavesShort, StopsWith, Taken}
+use Rattle.txn_cli.specs.Call.{EndsWith, HasStopped, HasRefused, Held, Leaves, StopsWith, Taken}
 use Rattle.store_trait.specs.declared.store.Store.{Ghosts}
 use Rattle.store_laws.proofs.trails.CallsMade.{rose_before}
 use Rattle.txn_cli.specs.Causes.{Counts, HasRisen, IsCaused, NoneSpent, circumstances, counts}
@@ -24,6 +24,8 @@ is_output fault.Output = inl refl
 is_output fault.OutOfMemory = inr (λ e. cc)
 is_output fault.Words = inr (λ e. cc)
 is_output (fault.Line number text) = inr (λ e. cc)
+is_output (fault.Unsound rule name) = inr (λ e. cc)
+is_output fault.TooManyCells = inr (λ e. cc)
 is_output fault.Store = inr (λ e. cc)
 is_output fault.Input = inr (λ e. cc)
 is_output (fault.Spent error) = inr (λ e. cc)
@@ -35,6 +37,8 @@ is_memory fault.OutOfMemory = inl refl
 is_memory fault.Output = inr (λ e. cc)
 is_memory fault.Words = inr (λ e. cc)
 is_memory (fault.Line number text) = inr (λ e. cc)
+is_memory (fault.Unsound rule name) = inr (λ e. cc)
+is_memory fault.TooManyCells = inr (λ e. cc)
 is_memory fault.Store = inr (λ e. cc)
 is_memory fault.Input = inr (λ e. cc)
 is_memory (fault.Spent error) = inr (λ e. cc)
@@ -52,6 +56,8 @@ module _ (taken : Taken) (reached : Reached) (end : Held) where
   leaves_memory fault.OutOfMemory h = h
   leaves_memory fault.Words h = record { next = tt; left = inl h.left }
   leaves_memory (fault.Line number text) h = record { next = tt; left = inl h.left }
+  leaves_memory (fault.Unsound rule name) h = record { next = tt; left = inl h.left }
+  leaves_memory fault.TooManyCells h = record { next = tt; left = inl h.left }
   leaves_memory fault.Store h = record { next = tt; left = begun_any (next_may_run (next_of reached.count taken.script)) h.left }
   leaves_memory fault.Input h = record { next = tt; left = inl h.left }
   leaves_memory (fault.Spent error) h = record { next = tt; left = begun_any (next_may_run (next_of reached.count taken.script)) h.left }
@@ -63,6 +69,8 @@ module _ (taken : Taken) (reached : Reached) (end : Held) where
   stops_plain fault.OutOfMemory w other full h = absurd (full refl)
   stops_plain fault.Words w other full h = h
   stops_plain (fault.Line number text) w other full h = h
+  stops_plain (fault.Unsound rule name) w other full h = h
+  stops_plain fault.TooManyCells w other full h = h
   stops_plain fault.Store w other full h = h
   stops_plain fault.Input w other full h = h
   stops_plain (fault.Spent error) w other full h = h
@@ -74,6 +82,8 @@ module _ (taken : Taken) (reached : Reached) (end : Held) where
   ends_plain Caused fault.OutOfMemory w other full h = absurd (full refl)
   ends_plain Caused fault.Words w other full h = h
   ends_plain Caused (fault.Line number text) w other full h = h
+  ends_plain Caused (fault.Unsound rule name) w other full h = h
+  ends_plain Caused fault.TooManyCells w other full h = h
   ends_plain Caused fault.Store w other full h = h
   ends_plain Caused fault.Input w other full h = h
   ends_plain Caused (fault.Spent error) w other full h = h
@@ -173,6 +183,8 @@ module _ {S : Type 0} (store : Ghosts S) (in_grammar : Bool) (script : Option (L
   caused_still fault.Output other h = absurd (other refl)
   caused_still fault.Words other h = record { shown = h.shown; reason = h.reason }
   caused_still (fault.Line number text) other h = record { shown = h.shown; reason = h.reason }
+  caused_still (fault.Unsound rule name) other h = record { shown = h.shown; reason = h.reason }
+  caused_still fault.TooManyCells other h = record { shown = h.shown; reason = h.reason }
   caused_still fault.Store other h = record { shown = h.shown; reason = h.reason }
   caused_still fault.Input other h = record { shown = h.shown; reason = h.reason }
   caused_still fault.OutOfMemory other h = record { shown = h.shown; reason = h.reason }
@@ -202,6 +214,8 @@ told_last f tells now after whole told = ⊎_elim
     ends fault.OutOfMemory other full h = tt
     ends fault.Words other full h = h
     ends (fault.Line number text) other full h = h
+    ends (fault.Unsound rule name) other full h = h
+    ends fault.TooManyCells other full h = h
     ends fault.Store other full h = h
     ends fault.Input other full h = h
     ends (fault.Spent e) other full h = h

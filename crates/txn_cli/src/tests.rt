@@ -59,8 +59,34 @@ const UNPLACED: &str = r#"{"doc":["k","a"],"body":{"v":0}}
 {"doc":["k","a"],"body":{}}
 "#;
 
+/// A token waits in a queue, and the record that it names is lost: an audit says so, and the script goes on.
+const LOST: &str =
+    r#"{"c":"k","cell":"doc","is":{"_id":"x","txn-queue":["000000000000000000000009_00000000"],"v":0}}
+{"cell":"nonce","is":{"next":1}}
+{"audit":true}
+{"order":true}
+"#;
+
+/// Documents aren't shown of such a store.
+const LOST_SHOWN: &str =
+    r#"{"c":"k","cell":"doc","is":{"_id":"x","txn-queue":["000000000000000000000009_00000000"],"v":0}}
+{"cell":"nonce","is":{"next":1}}
+{"show":true}
+{"audit":true}
+"#;
+
+/// A transaction is on its way, of which one document has its update and the other hasn't: each is shown with it.
+const APPLYING: &str =
+    r#"{"cell":"record","is":{"_id":"000000000000000000000001","n":"00000000","o":[{"c":"k","d":"a","u":{"$inc":{"v":-1}}},{"c":"k","d":"b","u":{"$inc":{"v":1}}}],"r":[0,0],"s":4}}
+{"c":"k","cell":"doc","is":{"_id":"a","txn-queue":["000000000000000000000001_00000000"],"txn-revno":1,"v":2}}
+{"c":"k","cell":"doc","is":{"_id":"b","txn-queue":["000000000000000000000001_00000000"],"v":5}}
+{"cell":"nonce","is":{"next":1}}
+{"audit":true}
+{"show":true}
+"#;
+
 /// What words and a script come to: the status and the output.
-static WORKED: [(&str, &str, u8, &str); 17] = [
+static WORKED: [(&str, &str, u8, &str); 20] = [
     ("run", SCRIPT, 0, OUTPUT),
     ("run", ABORT, 1, ABORTED),
     (
@@ -81,7 +107,15 @@ static WORKED: [(&str, &str, u8, &str); 17] = [
     ("race --db f", SCRIPT, 2, USAGE),
     ("grind 0", SCRIPT, 2, USAGE),
     ("grind 2001", SCRIPT, 2, USAGE),
-    ("run", "{\"audit\":true}\n", 3, "line 1: not built yet\n"),
+    ("run", "{\"audit\":true}\n", 0, "sound\n"),
+    ("run", LOST, 0, "unsound: rule 2 at doc \"k\" \"x\"\n"),
+    ("run", LOST_SHOWN, 4, "unsound: rule 2 at doc \"k\" \"x\"\n"),
+    (
+        "run",
+        APPLYING,
+        0,
+        "sound\n\"k\" \"a\" {\"v\":2}\n\"k\" \"b\" {\"v\":6}\n",
+    ),
     ("run", "# a comment\n\n{\"sho", 3, "line 3: not JSON\n"),
     (
         "run",
@@ -258,7 +292,7 @@ fn failing_stores(rt: HostRuntime) -> Result<(), Fail> {
         let played = play(alloc, "run", SCRIPT, fails)?;
         let last = played.written.as_slice().ends_with(b"store fault\n");
         assert_eq!(rt; last, played.status == 5, "{call}");
-        assert_eq!(rt; played.status == 0, call > 16, "{call}");
+        assert_eq!(rt; played.status == 0, call > 18, "{call}");
     }
     Ok(())
 }
@@ -270,11 +304,11 @@ const UNRUN: &str = r#"{"doc":["k","a"],"body":{"v":0}}
 "#;
 
 /// A batch that runs by itself is a statement of its own: its outcomes are printed, also where the store
-/// fails as the documents are listed behind it.
+/// fails as the cells are read behind it.
 #[test]
 fn refused_behind_a_batch(rt: HostRuntime) -> Result<(), Fail> {
     let alloc = rt.alloc();
-    for call in 15..17u64 {
+    for call in 15..19u64 {
         let fails = Fails {
             store: call,
             ..NONE

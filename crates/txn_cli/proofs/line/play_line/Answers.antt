@@ -1,7 +1,6 @@
 use Rattle.std.proofs.Common.{Ok, refl, ap, sym, ◌∙◌, arith}
-use Rattle.std.proofs.lemmas.Result.{err_from_is_err_and}
 use Rattle.txn_cli.specs.Output.{writing}
-use Rattle.txn_cli.proofs.LineSteps.{done_line, enough_first, kept_misread, kept_still, kept_then, may_misread, may_stop, may_stop_first, misread_line, skipped_line, stops_first, stops_then}
+use Rattle.txn_cli.proofs.LineSteps.{done_line, enough_first, kept_misread, kept_still, kept_then, skipped_line, stops_then}
 use Rattle.txn_cli.proofs.line.play_line.Goals as goal
 
 pub returns-in-Ok-None-clause-done : goal.returns-in-Ok-None-clause-done
@@ -21,7 +20,7 @@ returns-in_ok-run_first-in-Ok-Some-clause-stopped g c = λ told.
     let then = c.play_statement.ensures in
     let read = sym (c.in-Ok-Some.ensures.exact (λ e. cc)) ∙ ap Ok c.in-Ok-Some.field-0-is in
     stops_then g.S.Store _ c.in-Ok-Some.statement read c.args.session.now c.play_statement.new.session _ (record { session = c.run_first.new.session; written = g.O.Sink.written c.run_first.new.output }) (first.done told) first.kept.session.calls.counted then.kept.session.calls.counted
-    ((then.kept.session.calls.trail told).before _ (omega arith) ∙ (first.kept.session.calls.trail told).here) c.play_statement.result (then.against told) (then.left told)
+    ((then.kept.session.calls.trail told).before _ (omega arith) ∙ (first.kept.session.calls.trail told).here) c.play_statement.result (then.against told) then.found (then.left told)
 
 pub returns-in_ok-run_first-in-Ok-Some-clause-kept : goal.returns-in_ok-run_first-in-Ok-Some-clause-kept
 returns-in_ok-run_first-in-Ok-Some-clause-kept g c =
