@@ -72,7 +72,8 @@ Marked flags v = slice_index_or flags v false ≡ true
 
 -- v comes to be marked, where a token of it stands after one of a record that was never prepared
 abbrev pub AddsMark : List Bool → Bool → Option ℕ → List Bool → Type 0
-AddsMark old passed vertex new = (v : ℕ) → Marked new v ↔ (Marked old v ⊎ (IsTrue passed × (vertex ≡ Some v)))
+AddsMark old passed vertex new =
+    (v : ℕ) → Marked new v ↔ (Marked old v ⊎ (IsTrue passed × (vertex ≡ Some v)))
 
 -- the edges of a queue, added to those before
 pub record IsChained (view : View) (ids : List TxnId) (old edges : List Edge) (queue : List Token)

@@ -21,7 +21,8 @@ parts_cmp a b = ordering_then (slice_cmp nat_cmp a.0 b.0) (nat_cmp a.1 b.1)
 
 -- the set has just the tokens of a queue
 abbrev pub IsSetOf : List Token → BTreeSet Parts → Type 0
-IsSetOf queue tokens = (x : Token) → (contains parts_cmp tokens (x.id.0, x.nonce) ≡ true) ↔ In x queue
+IsSetOf queue tokens =
+    (x : Token) → (contains parts_cmp tokens (x.id.0, x.nonce) ≡ true) ↔ In x queue
 
 -- the queue of a cell
 abbrev pub queue_in : Cell → List Token

@@ -197,15 +197,20 @@ fn ready_flags(alloc: Global, graph: &Graph) -> Result<Vec<bool>, Fail>
     Ok(flags)
 }
 
+const CHAIN_READY: &[bool] = &[false, true, false];
+
+/// Which vertices are behind a settled one.
+const CHAIN_BEHIND: &[bool] = &[true, false, true];
+
 /// A chain of three whose middle vertex, the first listed, is settled.
 #[test]
 fn settled_in_a_chain(rt: HostRuntime) -> Result<(), Fail> {
     let alloc = rt.alloc();
     let chain = graph(alloc, &[1, 2, 3], &[true, false, false], &[(1, 0), (0, 2)])?;
     let ready = ready_flags(alloc, &chain)?;
-    assert_eq!(rt; ready.as_slice(), &[false, true, false]);
+    assert!(rt; ready.as_slice() == CHAIN_READY);
     let behind = descendants(alloc, &chain, chain.settled.as_slice())?;
-    assert_eq!(rt; behind.as_slice(), &[true, false, true]);
+    assert!(rt; behind.as_slice() == CHAIN_BEHIND);
     Ok(())
 }
 

@@ -47,7 +47,8 @@ HasFault c error.StoreFault = Unit {0}
 HasFault c error.OutOfMemory = Unit {0}
 
 -- a store was listed, and the cells have this first flaw
-pub record ShowsFlaw {S : Type 0} (store : Ghosts S) (old new : S) (rule : ℕ) (at : Name) : Type 0 where
+pub record ShowsFlaw {S : Type 0} (store : Ghosts S) (old new : S) (rule : ℕ) (at : Name)
+    : Type 0 where
   pub cells : List Named
   pub listed : WasListed store old new cells
   pub ordered : IsListing cells

@@ -49,4 +49,5 @@ abbrev pub IsFirstFlaw : List Named → Option Flaw → Type 0
 IsFirstFlaw cells None = HoldBelow (content_of cells) 10
 IsFirstFlaw cells (Some flaw) =
     (flaw.place < length cells)
-    × ((d : Named) → IsFirstBroken (content_of cells) flaw.rule (slice_index_or cells flaw.place d).name)
+    × ((d : Named) →
+    IsFirstBroken (content_of cells) flaw.rule (slice_index_or cells flaw.place d).name)

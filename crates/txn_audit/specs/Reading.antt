@@ -24,19 +24,21 @@ pub record ReadsWhole {S T : Type 0} (store : Ghosts S) (old new : S) (result : 
   pub still : IsErrOf result error.StoreFault ⊎ (store.faults new ≡ store.faults old)
 
 -- Calls that list a store: each asked for the first cell past the last one's name, and was answered so.
-pub data Lists {S : Type 0} (store : Ghosts S) (old : S) : S → Option Name → List Named → Type 0 where
-  Nothing : Lists store old old None []
-  Then : (now new : S) (after : Option Name) (cells : List Named) (found : Named)
-      → Lists store old now after cells
-      → IsExchange store now (Exchange.Lists after (Ok (Some found))) new
-      → Lists store old new (Some found.name) (cells ++ found ∷ [])
+pub data Lists {S : Type 0} (store : Ghosts S) (old : S) : S → Option Name → List Named → Type 0
+  where
+    Nothing : Lists store old old None []
+    Then : (now new : S) (after : Option Name) (cells : List Named) (found : Named)
+        → Lists store old now after cells
+        → IsExchange store now (Exchange.Lists after (Ok (Some found))) new
+        → Lists store old new (Some found.name) (cells ++ found ∷ [])
 
 -- a store was listed from its first cell to its last, by these calls alone
-pub record WasListed {S : Type 0} (store : Ghosts S) (old new : S) (cells : List Named) : Type 0 where
-  pub last : S
-  pub after : Option Name
-  pub lists : Lists store old last after cells
-  pub ended : IsExchange store last (Exchange.Lists after (Ok None)) new
+pub record WasListed {S : Type 0} (store : Ghosts S) (old new : S) (cells : List Named) : Type 0
+  where
+    pub last : S
+    pub after : Option Name
+    pub lists : Lists store old last after cells
+    pub ended : IsExchange store last (Exchange.Lists after (Ok None)) new
 
 -- so many cells were listed, by these calls alone
 pub record ListsMany {S : Type 0} (store : Ghosts S) (old new : S) : Type 0 where

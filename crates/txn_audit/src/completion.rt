@@ -80,7 +80,8 @@ fn run_cell(
 ) -> Result<bool, OutOfMemory>
     requires listed { IsListing cells.now }
     requires rise { keys_rise keys.now ≡ true }
-    requires there { All (λ op. list_any (same_key op.key) keys.now ≡ true) (applying_ops cell.now) }
+    requires there { All (λ op. list_any (same_key op.key) keys.now ≡ true)
+        (applying_ops cell.now) }
     requires count { length bodies.old ≡ length keys.now }
     ensures count { length bodies.new ≡ length keys.now }
     ensures fits { IfOk result (λ fits. fits ≡ changes_fit

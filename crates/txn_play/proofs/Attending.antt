@@ -24,10 +24,10 @@ use Rattle.txn_script.specs.declared.statement.Statement.TheVariants as statemen
 use Rattle.txn_play.specs.Batches.{waits}
 use Rattle.txn_play.specs.Progress.{Performs, Progress, against, against_placing, against_waiting, is_nothing, may_settle, most_waiting, lets_run, objection_at_end, objection_to, placed_doc, runs_batch, unless_alone}
 use Rattle.txn_play.specs.Readings.{HasFound, IsOfReading, IsShownFor, ReadsAlone}
-use Rattle.txn_play.specs.Refusals.{CallsAlone, HasCause, HasReason, IsNoObjection, IsUnspent, refusal_of_store}
+use Rattle.txn_play.specs.Refusals.{CallsAlone, HasCause, HasReason, IsNoObjection, IsUnfound, IsUnspent, refusal_of_store}
 use Rattle.txn_play.specs.Remains.{HasLeft, Stays}
 use Rattle.txn_play.specs.Runs.{RunsGoOn}
-use Rattle.txn_play.specs.Sessions.{HasAttended, HasEnough, IsAgainst, IsCaused, IsKept, IsRefused, KeepsRest, Stands, at, holding}
+use Rattle.txn_play.specs.Sessions.{HasAttended, HasEnough, IsFoundFor, IsAgainst, IsCaused, IsKept, IsRefused, KeepsRest, Stands, at, holding}
 use Rattle.txn_play.specs.declared.answer.Answer.{Answer}
 use Rattle.txn_play.specs.declared.answer.Answer.TheVariants.{Nothing}
 use Rattle.txn_play.specs.declared.objection.Objection.{Objection}
@@ -107,6 +107,35 @@ failed_refused store may_run old new why h same runs rest = record {
   caused = failed_caused store old new why h;
 }
 
+-- where no audit found anything, no statement is refused so
+pub unfound : (s : Statement) (why : Refusal) → IsUnfound why → IsFoundFor s why
+unfound s (refusal.Found f) h = elim h [ ]
+unfound s (refusal.Objected w) h = tt
+unfound s refusal.Store h = tt
+unfound s refusal.OutOfMemory h = tt
+unfound s (refusal.Spent e) h = tt
+unfound s (refusal.Broken e) h = tt
+unfound s (refusal.Repeated id) h = tt
+
+pub failed_unfound : {T : Type 0} (why : Refusal) → (failed {T = T} why ≡ failed refusal.Store) ⊎ (failed {T = T} why ≡ failed refusal.OutOfMemory) → IsUnfound why
+failed_unfound (refusal.Found f) h = absurd (⊎_elim (λ e. cc) (λ e. cc) h)
+failed_unfound (refusal.Objected w) h = tt
+failed_unfound refusal.Store h = tt
+failed_unfound refusal.OutOfMemory h = tt
+failed_unfound (refusal.Spent e) h = tt
+failed_unfound (refusal.Broken e) h = tt
+failed_unfound (refusal.Repeated id) h = tt
+
+-- documents are shown, and a batch is run, where an audit finds nothing
+pub shows_found : (why : Refusal) → IsFoundFor statement.Show why
+shows_found (refusal.Found f) = refl
+shows_found (refusal.Objected w) = tt
+shows_found refusal.Store = tt
+shows_found refusal.OutOfMemory = tt
+shows_found (refusal.Spent e) = tt
+shows_found (refusal.Broken e) = tt
+shows_found (refusal.Repeated id) = tt
+
 -- reading a whole store is refused by no objection
 pub read_against : (o : Option Objection) (why : Refusal) → IsOfReading why → IsAgainst o why
 read_against o (refusal.Objected w) h = elim h [ ]
@@ -157,8 +186,9 @@ module _ {S T : Type 0} (store : Ghosts S) (old new : S) (why : Refusal) (h : Re
 
 -- a statement that reads a whole store is refused so
 pub reading_refused : {S T : Type 0} (store : Ghosts S) (s : Statement) (old new : Session S) (why : Refusal) → Stands store old → ReadsAlone {T = T} store old.store new.store (Err why)
-    → new.runs.items ≡ old.runs.items → KeepsRest old new → HasAttended store s old new (Err why)
-reading_refused store s old new why stands h runs rest = record {
+    → IsFoundFor s why → new.runs.items ≡ old.runs.items → KeepsRest old new → HasAttended store s old new (Err why)
+reading_refused store s old new why stands h found runs rest = record {
+  found = found;
   done = λ told. tt;
   against = λ told. read_against _ why h.kind;
   refused = record {
@@ -179,6 +209,7 @@ pub reading_done : {S : Type 0} (store : Ghosts S) (s : Statement) (old new : Se
     → old.batch ≡ [] → against (at store old) s ≡ None → (IsTrue store.tells → at store new ≡ record (at store old) { begun = true; calls = store.calls new.store } → Performs s (at store old) (at store new) said)
     → new.runs.items ≡ old.runs.items → KeepsRest (record old { begun = new.begun }) new → new.begun ≡ true → HasAttended store s old new (Ok said)
 reading_done store s old new said stands reads on cleared free performs runs rest begun = record {
+  found = tt;
   done = λ told. record {
     cleared = λ lets. cleared;
     allowed = nothing_first (at store old) s cleared ∙ free;
@@ -254,8 +285,9 @@ module _ {S : Type 0} (store : Ghosts S) (old new : Session S) (stands : Stands 
   -- nothing was placed
   pub placing_refused : (s : Statement) (why : Refusal) → against (at store old) s ≡ against_placing (at store old) under cell
       → (IsTrue store.tells → IsAgainst (against_placing (at store old) under cell) why) → (IsTrue store.tells → store.content new.store ≡ store.content old.store)
-      → (old.begun ≡ true → new.store ≡ old.store) → new.documents_alone ≡ old.documents_alone → IsCaused store old new why → HasAttended store s old new (Err why)
-  placing_refused s why is objected left idle alone caused = record {
+      → (old.begun ≡ true → new.store ≡ old.store) → new.documents_alone ≡ old.documents_alone → IsCaused store old new why → IsUnfound why → HasAttended store s old new (Err why)
+  placing_refused s why is objected left idle alone caused none = record {
+    found = unfound s why none;
     done = λ told. tt;
     against = λ told. subst (λ (o : Option Objection). IsAgainst o why) (sym (nothing_first (at store old) s cleared ∙ is)) (objected told);
     refused = record {
@@ -284,6 +316,7 @@ module _ {S : Type 0} (store : Ghosts S) (old new : Session S) (stands : Stands 
       → (IsTrue store.tells → (against_placing (at store old) under cell ≡ None) × (store.content new.store ≡ insert (store.content old.store) under cell))
       → (IsTrue store.tells → IsTrue new.documents_alone → IsCalm (store.content new.store)) → HasAttended store (statement.Doc key body) old new (Ok Nothing)
   placing_doc key body is_under is_cell unbegun alone placed calm = record {
+    found = tt;
     done = λ told.
         let it = placed told in
         let here : store.content new.store ≡ insert (store.content old.store) (name.Doc key) (placed_doc body) = it.1 ∙ (λ i. insert (store.content old.store) (is_under i) (is_cell i)) in
@@ -301,6 +334,7 @@ module _ {S : Type 0} (store : Ghosts S) (old new : Session S) (stands : Stands 
       → (IsTrue store.tells → (against_placing (at store old) under cell ≡ None) × (store.content new.store ≡ insert (store.content old.store) under cell))
       → HasAttended store (statement.Place under cell) old new (Ok Nothing)
   placing_cell unbegun alone placed = record {
+    found = tt;
     done = λ told.
         let it = placed told in
         record {

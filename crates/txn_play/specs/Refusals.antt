@@ -47,6 +47,11 @@ abbrev pub IsNoObjection : Refusal → Type 0
 IsNoObjection (refusal.Objected _) = ⊥
 IsNoObjection _ = Unit {0}
 
+-- no audit found anything
+abbrev pub IsUnfound : Refusal → Type 0
+IsUnfound (refusal.Found _) = ⊥
+IsUnfound _ = Unit {0}
+
 -- the refusals that the steps of a batch may end with
 abbrev pub IsOfSteps : Refusal → Type 0
 IsOfSteps (refusal.Objected _) = ⊥

@@ -5,6 +5,7 @@ ghost use Rattle.std.specs.FinMap.{insert};
 ghost use Rattle.store_trait.specs.Stores.{CallsGoOn};
 ghost use Rattle.txn_play.specs.Sessions.{HasAttended};
 ghost use Rattle.txn_play.specs.Progress.{against_placing, is_default, lets_run, objection_to, runs_batch, unless_alone, Does, RunsBatch};
+ghost use Rattle.txn_play.specs.Refusals.{IsUnfound};
 ghost use Rattle.txn_play.specs.Sessions.{IsAgainst, IsCaused, IsFoundFor, IsKept, IsRefused, Stands, at};
 ghost use Rattle.txn_script.specs.declared.statement.Statement.TheVariants as statement;
 
@@ -119,6 +120,7 @@ impl<S: Store> Session<S> {
             × (self.new.documents_alone ≡ self.old.documents_alone)
             × (self.new.runs.items ≡ self.old.runs.items) }
         ensures caused { IfErr result (IsCaused S.Store self.old self.new) }
+        ensures found { IfErr result IsUnfound }
         ensures calls { CallsGoOn S.Store self.old.store self.new.store }
     {
         if self.begun {

@@ -1,6 +1,6 @@
 use Rattle.store_laws.proofs.trails.CallsMade.{calls_none, calls_then}
 use Rattle.txn_play.proofs.Causing.{causes_before}
-use Rattle.std.proofs.Common.{[], refl, sym, ap, ◌∙◌, subst}
+use Rattle.std.proofs.Common.{[], true, refl, sym, ap, ◌∙◌, subst}
 use Rattle.std.proofs.lemmas.Result.{err_from_is_err_and}
 use Rattle.txn_audit.specs.Audits.{PassesAudit}
 use Rattle.txn_play.proofs.Attending.{reading_reason, reading_unspent, reading_cause}
@@ -15,7 +15,7 @@ returns-clause-runs g c = λ told.
     let may = c.requires.may_run told in
     batch_runs _ _ _ _ _ (record { base = c.in_ok-base.base; order = c.run_all-states.new.order.items; mark = c.calls-mark.result; turns = [] }) told (λ s. g.met.S.Store.present s told) may (c.in_ok-base.ensures.reads.only told) c.in_ok-base.ensures.reads.calls c.run_all-states.ensures.calls
     (subst PassesAudit (sym (c.in_ok-base.ensures.reads.only told).same) (c.in_ok-base.ensures.means told).passes) c.calls-mark.ensures ((c.in_ok-base.ensures.means told).docs_are ∙ ap meaning (sym (c.in_ok-base.ensures.reads.only told).same)) (rw c.new-order.ensures.items at (c.run_all-states.ensures.works told))
-    _ _ (rw (c.in-Ok-push.ensures.items, c.in_ok-reserve.ensures.items, c.from_vec.ensures, c.new.ensures) refl) (c.requires.runs told)
+    _ _ (rw (c.in-Ok.ensures.items, c.in_ok-reserve.ensures.items, c.from_vec.ensures, c.new.ensures) refl) (c.requires.runs told)
 
 pub returns-clause-done : goal.returns-clause-done
 returns-clause-done g c = λ told.
@@ -23,14 +23,14 @@ returns-clause-done g c = λ told.
     if_ok c.run_all-states.result _ _ (c.run_all-states.ensures.done told)
     (λ lines done. batch_done _ _ _ _ _ (record { base = c.in_ok-base.base; order = c.run_all-states.new.order.items; mark = c.calls-mark.result; turns = [] }) told (λ s. g.met.S.Store.present s told) may (c.in_ok-base.ensures.reads.only told) c.in_ok-base.ensures.reads.calls c.run_all-states.ensures.calls
     (subst PassesAudit (sym (c.in_ok-base.ensures.reads.only told).same) (c.in_ok-base.ensures.means told).passes) c.calls-mark.ensures ((c.in_ok-base.ensures.means told).docs_are ∙ ap meaning (sym (c.in_ok-base.ensures.reads.only told).same)) (rw c.new-order.ensures.items at (c.run_all-states.ensures.works told))
-    _ _ _ refl (rw (c.in-Ok-push.ensures.items, c.in_ok-reserve.ensures.items, c.from_vec.ensures, c.new.ensures) refl) (c.run_all-states.ensures.uses told) done)
+    _ _ _ refl (rw (c.in-Ok.ensures.items, c.in_ok-reserve.ensures.items, c.from_vec.ensures, c.new.ensures) refl) (c.run_all-states.ensures.uses told) done)
 
 pub returns-clause-left : goal.returns-clause-left
 returns-clause-left g c = λ told.
     let may = c.requires.may_run told in
     batch_left _ _ _ _ _ (record { base = c.in_ok-base.base; order = c.run_all-states.new.order.items; mark = c.calls-mark.result; turns = [] }) told (λ s. g.met.S.Store.present s told) may (c.in_ok-base.ensures.reads.only told) c.in_ok-base.ensures.reads.calls c.run_all-states.ensures.calls
     (subst PassesAudit (sym (c.in_ok-base.ensures.reads.only told).same) (c.in_ok-base.ensures.means told).passes) c.calls-mark.ensures ((c.in_ok-base.ensures.means told).docs_are ∙ ap meaning (sym (c.in_ok-base.ensures.reads.only told).same)) (rw c.new-order.ensures.items at (c.run_all-states.ensures.works told))
-    c.run_all-states.result _ _ refl (rw (c.in-Ok-push.ensures.items, c.in_ok-reserve.ensures.items, c.from_vec.ensures, c.new.ensures) refl) (rw c.new-order.ensures.items at (c.run_all-states.ensures.records told)) (c.run_all-states.ensures.uses told) c.run_all-states.ensures.kind (c.run_all-states.ensures.unfinished told)
+    c.run_all-states.result _ _ refl (rw (c.in-Ok.ensures.items, c.in_ok-reserve.ensures.items, c.from_vec.ensures, c.new.ensures) refl) (rw c.new-order.ensures.items at (c.run_all-states.ensures.records told)) (c.run_all-states.ensures.uses told) c.run_all-states.ensures.kind (c.run_all-states.ensures.unfinished told)
 
 pub returns-clause-enough : goal.returns-clause-enough
 returns-clause-enough g c = λ told suffices.

@@ -2,7 +2,7 @@ use Rattle.std.proofs.Common.{true, false, Some, None, refl, rules, sym, ap, ◌
 use Rattle.std.proofs.lemmas.Result.{err_from_is_err_and}
 use Rattle.txn_script.specs.declared.statement.Statement.TheVariants as statement
 use Rattle.txn_play.specs.Sessions.{at}
-use Rattle.txn_play.proofs.Attending.{against_submitted, failed_against, failed_refused, memory_refused, none_first, nothing_against, objected_refused}
+use Rattle.txn_play.proofs.Attending.{against_submitted, failed_against, failed_refused, failed_unfound, memory_refused, none_first, nothing_against, objected_refused, unfound}
 use Rattle.std.proofs.lemmas.Bool.{and_parts}
 use Rattle.txn_play.proofs.Sessions.{adding_stands, reading_runs, refused_idly, refused_reading}
 use Rattle.txn_play.proofs.session.Session.add_to_batch.Goals as goal
@@ -13,12 +13,14 @@ returns-in_err-why g c =
     rw (p.1, p.2) (record {
       done = λ told. tt;
       against = λ told. failed_against _ _ c.in_err-why.ensures.kept.other;
+      found = unfound _ _ (failed_unfound _ c.in_err-why.ensures.kept.other);
       refused = failed_refused _ false _ _ _ c.in_err-why.ensures.kept (λ told. (c.against_record.ensures.reads told).same) refl (record { batch = refl; begun = refl; alone = refl });
       kept = refused_reading _ _ _ _ c.requires.stands c.against_record.ensures.reads c.against_record.ensures.kept.calls refl;
     })
 
 pub returns-in-Some : goal.returns-in-Some
 returns-in-Some g c = record {
+  found = tt;
   done = λ told. tt;
   against = λ told.
       let p = at g.S.Store c.args.self.now in
@@ -34,6 +36,7 @@ returns-in_err-push g c =
     rw (p.1, p.2) (record {
       done = λ told. tt;
       against = λ told. tt;
+      found = tt;
       refused = memory_refused _ false _ _ (λ told. (c.against_record.ensures.reads told).same) refl (record { batch = c.in_err-push.ensures.err; begun = refl; alone = refl });
       kept = refused_reading _ _ _ _ c.requires.stands c.against_record.ensures.reads c.against_record.ensures.kept.calls refl;
     })
@@ -50,6 +53,7 @@ returns g c =
         performs = (λ i. record { content = (c.against_record.ensures.reads told).same i; calls = g.S.Store.calls c.against_record.new.store; waiting = c.in_ok-push.ensures.ok i; begun = true; documents_alone = c.args.self.now.documents_alone; runs = c.args.self.now.runs.items }, refl);
       };
       against = λ told. tt;
+      found = tt;
       refused = tt;
       kept = record {
         stands = λ told.
@@ -64,6 +68,7 @@ pub returns-then-is_full : goal.returns-then-is_full
 returns-then-is_full g c = record {
   done = λ told. tt;
   against = search rules;
+  found = tt;
   refused = search rules;
   kept = refused_idly _ _ _ _ c.requires.stands (λ told. g.met.S.Store.present _ told) refl refl;
 }
@@ -72,6 +77,7 @@ pub returns-then-has : goal.returns-then-has
 returns-then-has g c = record {
   done = λ told. tt;
   against = search rules;
+  found = tt;
   refused = search rules;
   kept = refused_idly _ _ _ _ c.requires.stands (λ told. g.met.S.Store.present _ told) refl refl;
 }

@@ -1,4 +1,4 @@
-use Rattle.std.proofs.Common.{ap, refl}
+use Rattle.std.proofs.Common.{ap, refl, true}
 use Rattle.std.proofs.lemmas.Result.{err_from_is_err_and}
 use Rattle.txn_play.specs.declared.answer.Answer.TheVariants.{Cells}
 use Rattle.txn_script.specs.declared.statement.Statement.TheVariants as statement
@@ -14,4 +14,4 @@ returns g c =
 pub returns-in_err-cells : goal.returns-in_err-cells
 returns-in_err-cells g c =
     let p = err_from_is_err_and c.from_residual.result c.from_residual.ensures.1 in
-    rw (p.1, p.2) (reading_refused _ statement.Export _ _ _ c.requires.stands c.in_err-cells.ensures.reads refl (record { batch = refl; begun = refl; alone = refl }))
+    rw (p.1, p.2) (reading_refused _ statement.Export _ _ _ c.requires.stands c.in_err-cells.ensures.reads (c.in_err-cells.ensures.found) refl (record { batch = refl; begun = refl; alone = refl }))

@@ -6,6 +6,7 @@ pub returns-else-is_default : goal.returns-else-is_default
 returns-else-is_default g c = record {
   done = λ told. tt;
   against = search rules;
+  found = tt;
   refused = search rules;
   kept = refused_idly _ _ _ _ c.requires.stands (λ told. g.met.S.Store.present _ told) refl refl;
 }

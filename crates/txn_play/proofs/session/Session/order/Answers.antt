@@ -19,6 +19,7 @@ returns g c = record {
     performs = record { stays = refl; answers = ap Order (rw c.as_slice.ensures.value at c.in_ok-order.ensures) };
   };
   against = λ told. tt;
+  found = tt;
   refused = tt;
   kept = kept_reading _ c.args.self.now (record { store = c.args.self.now.store; runs = c.args.self.now.runs; batch = c.args.self.now.batch; begun = true; documents_alone = c.args.self.now.documents_alone }) _ c.requires.stands
       (λ told. reads_none _ _ (g.met.S.Store.present _ told)) (calls_none _ _ (λ told. g.met.S.Store.present _ told)) refl refl refl refl;
@@ -30,6 +31,7 @@ returns-in_err-order g c =
     rw (p.1, p.2) (record {
       done = λ told. tt;
       against = λ told. tt;
+      found = tt;
       refused = memory_refused _ false _ _ (λ told. refl) refl (record { batch = refl; begun = refl; alone = refl });
       kept = refused_idly _ _ _ _ c.requires.stands (λ told. g.met.S.Store.present _ told) refl refl;
     })

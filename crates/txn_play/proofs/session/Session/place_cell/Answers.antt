@@ -13,4 +13,4 @@ pub returns-in_err-place_at : goal.returns-in_err-place_at
 returns-in_err-place_at g c =
     let it = c.in_err-place_at.ensures in
     let p = err_from_is_err_and c.from_residual.result c.from_residual.ensures.1 in
-    rw (p.1, p.2) (placing_refused _ c.args.self.now c.place_at.new.self c.requires.stands c.requires.cleared _ _ it.rest.0 it.rest.1 it.rest.3 it.calls (statement.Place c.args.name c.args.cell) _ refl it.against it.left it.idle it.rest.2 it.caused)
+    rw (p.1, p.2) (placing_refused _ c.args.self.now c.place_at.new.self c.requires.stands c.requires.cleared _ _ it.rest.0 it.rest.1 it.rest.3 it.calls (statement.Place c.args.name c.args.cell) _ refl it.against it.left it.idle it.rest.2 it.caused it.found)

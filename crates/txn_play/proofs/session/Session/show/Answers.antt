@@ -1,8 +1,8 @@
-use Rattle.std.proofs.Common.{ap, refl}
+use Rattle.std.proofs.Common.{ap, refl, true}
 use Rattle.std.proofs.lemmas.Result.{err_from_is_err_and}
 use Rattle.txn_play.specs.declared.answer.Answer.TheVariants.{Documents}
 use Rattle.txn_script.specs.declared.statement.Statement.TheVariants as statement
-use Rattle.txn_play.proofs.Attending.{reading_done, reading_refused}
+use Rattle.txn_play.proofs.Attending.{reading_done, reading_refused, shows_found}
 use Rattle.txn_play.proofs.session.Session.show.Goals as goal
 
 pub returns : goal.returns
@@ -14,4 +14,4 @@ returns g c =
 pub returns-in_err-docs : goal.returns-in_err-docs
 returns-in_err-docs g c =
     let p = err_from_is_err_and c.from_residual.result c.from_residual.ensures.1 in
-    rw (p.1, p.2) (reading_refused _ statement.Show _ _ _ c.requires.stands c.in_err-docs.ensures.reads refl (record { batch = refl; begun = refl; alone = refl }))
+    rw (p.1, p.2) (reading_refused _ statement.Show _ _ _ c.requires.stands c.in_err-docs.ensures.reads (shows_found _) refl (record { batch = refl; begun = refl; alone = refl }))
