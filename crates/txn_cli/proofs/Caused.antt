@@ -111,8 +111,8 @@ module _ {S I : Type 0} (store : Ghosts S) (source : SourceGhosts I) (in_grammar
       → (why ≡ stop.Output → HasRisen (counts mid output.after)) → IsCaused store call f
   caused_stop between mid made le (stop.Misread w) f is may h rose = by_text (script_text w) f is may
   caused_stop between mid made le (stop.Refused (refusal.Objected o)) f is may h rose = by_text (objection_text o) f is may
-  caused_stop between mid made le (stop.Refused (refusal.Found (finding.Unsound rule name))) f is may h rose = subst (IsCaused store call) (sym is) (record { shown = found_told (finding.Unsound rule name) may; reason = h.reason })
-  caused_stop between mid made le (stop.Refused (refusal.Found finding.TooManyCells)) f is may h rose = subst (IsCaused store call) (sym is) (record { shown = found_told finding.TooManyCells may; reason = h.reason })
+  caused_stop between mid made le (stop.Refused (refusal.Found (finding.Unsound rule name))) f is may h rose = subst (IsCaused store call) (sym is) (record { shown = (caused_before store old between.store next.store (refusal.Found (finding.Unsound rule name)) made.chain h.cause, found_told (finding.Unsound rule name) may); reason = h.reason })
+  caused_stop between mid made le (stop.Refused (refusal.Found finding.TooManyCells)) f is may h rose = subst (IsCaused store call) (sym is) (record { shown = (caused_before store old between.store next.store (refusal.Found finding.TooManyCells) made.chain h.cause, found_told finding.TooManyCells may); reason = h.reason })
   caused_stop between mid made le (stop.Refused refusal.OutOfMemory) f is may h rose = subst (IsCaused store call) (sym is) short
   caused_stop between mid made le (stop.Refused refusal.Store) f is may h rose = subst (IsCaused store call) (sym is) (record { shown = rose_before made.later (h.fault refl); reason = λ told. tt })
   caused_stop between mid made le (stop.Refused (refusal.Spent e)) f is may h rose = subst (IsCaused store call) (sym is) (record { shown = caused_before store old between.store next.store (refusal.Spent e) made.chain h.cause; reason = h.reason })

@@ -76,8 +76,8 @@ LeftIn may_run p end fault.Output = ⊥
 LeftIn may_run p end why = LeftAs (refusal_in why) may_run p end
 
 -- The refusal of a line names the next one, and the text by which it is refused there; what an audit finds
--- refuses what comes next where that audits; bad words come before any line. Where the input failed, no more than a part of the next line was taken: each line that
--- came whole was done.
+-- refuses what comes next, where that audits; bad words come before any line. Where the input failed, no
+-- more than a part of the next line was taken: each line that came whole was done.
 abbrev pub IsOfNext : Taken → ℕ → Progress → Fault → Type 0
 IsOfNext taken n p (fault.Line number text) =
     (number ≡ n + 1) × Refuses (next_of n taken.script) p text

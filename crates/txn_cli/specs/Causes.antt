@@ -71,8 +71,8 @@ IsFoundIn store call found =
     WasFound store call.old call.new found × IfSome call.script (MayBeFound found)
 
 -- The words are out of the grammar; a line may be refused so, whatever the store holds; the store, the
--- input or the output failed in this call. Over any store its last answer shows why nonces or numbers are
--- used up, or what broke.
+-- input or the output failed in this call. Over any store its last answers show why nonces or numbers are
+-- used up, what broke, or what an audit found.
 abbrev pub IsShown : {S : Type 0} → Ghosts S → Circumstances S → Fault → Type 0
 IsShown store call fault.Words = call.in_grammar ≡ false
 IsShown store call (fault.Line number text) = IfSome call.script (MayBeRefused number text)
@@ -83,8 +83,8 @@ IsShown store call fault.Input = HasRisen call.input
 IsShown store call fault.Output = HasRisen call.output
 IsShown store call why = IfSome (refusal_in why) (HasCause store call.old call.new)
 
--- Why a call was refused. Over a store that tells, nonces and numbers are used up where it says so, and
--- nothing is ever broken.
+-- Why a call was refused. Over a store that tells, what an audit found is so, nonces and numbers are used up
+-- where it says so, and nothing is ever broken.
 pub record IsCaused {S : Type 0} (store : Ghosts S) (call : Circumstances S) (why : Fault) : Type 0 where
   pub shown : IsShown store call why
   pub reason : IsTrue store.tells → IfSome (refusal_in why) (HasReason (store.content call.new))
