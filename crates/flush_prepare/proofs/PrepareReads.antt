@@ -68,29 +68,48 @@ module _ (c : Content) (prepare : Prepare) (worth : IsPreparing c prepare) where
       waits : In (token prepare.rec.id nonce) (owner_queue doc stash) → IsDone c prepare nonce prepare.key
       waits inside = queued_later shown.moment.at c prepare.key (token prepare.rec.id nonce) (since_step shown.moment.at c shown.moment.sound shown.moment.since) (inl (subst (In (token prepare.rec.id nonce)) (sym shown.queue) inside))
 
-      -- a mark's record was applying then
-      marks : (mark : Token) (is_kind : Change → Bool) → IsMarkOf (look shown.moment.at) prepare.key mark is_kind → IsBlocked c prepare.key mark.id
-      marks mark is_kind m = record {
-        rec = m.rec;
-        there = still_later shown.moment.at c mark.id m.rec (since_step shown.moment.at c shown.moment.sound shown.moment.since) (still_there mark.id m.rec m.there);
+      doc_then : Option DocCell
+      doc_then = doc_at shown.moment.at prepare.key
+
+      stash_then : Option StashCell
+      stash_then = stash_at shown.moment.at prepare.key
+
+      -- the record of the mark that the owner bore was applying then
+      marks : (mark : Token) → owner_mark doc_then stash_then ≡ Some mark → (is_kind : Change → Bool) → IsMarkOf (look shown.moment.at) prepare.key mark is_kind → IsBlocked c prepare.rec prepare.key mark.id
+      unfolding doc_then stash_then look
+      marks mark seen is_kind m = record {
+        moment = shown.moment;
+        mark = mark;
+        seen = seen;
+        is_of = refl;
+        marker = m.rec;
+        stored = m.there;
         applies = m.applies;
         on = subst (λ (k : Key). IsOn k m.rec.ops) m.on (at_on m.op _ m.rec.ops m.numbers m.stands);
+        there = still_later shown.moment.at c mark.id m.rec (since_step shown.moment.at c shown.moment.sound shown.moment.since) (still_there mark.id m.rec m.there);
       }
 
-      owner_then : (o : Side) → owner_of doc stash ≡ o → owner_of (doc_at shown.moment.at prepare.key) (stash_at shown.moment.at prepare.key) ≡ o
+      owner_then : (o : Side) → owner_of doc stash ≡ o → owner_of doc_then stash_then ≡ o
+      unfolding doc_then stash_then
       owner_then o e = shown.shows.owner ∙ e
 
-      blocked_doc : (mark : Token) (d : Option DocCell) → doc ≡ d → owner_of doc stash ≡ side.Document → doc_mark d ≡ Some mark → IsBlocked c prepare.key mark.id
+      -- the owner's mark then is that of the cell that was shown
+      mark_then : (o : Side) → owner_of doc stash ≡ o → owner_mark doc_then stash_then ≡ by_side o None (doc_mark doc_then) (stash_mark stash_then)
+      mark_then o e = ap (λ (o : Side). by_side o None (doc_mark doc_then) (stash_mark stash_then)) (owner_then o e)
+
+      blocked_doc : (mark : Token) (d : Option DocCell) → doc ≡ d → owner_of doc stash ≡ side.Document → doc_mark d ≡ Some mark → IsBlocked c prepare.rec prepare.key mark.id
+      unfolding doc_then stash_then
       blocked_doc mark None e owns marked = cc
       blocked_doc mark (Some d) e owns marked =
-          marks mark _ (((parts shown.moment.at shown.moment.sound).marks prepare.key).of_doc d mark (shown.shows.by_doc owns ∙ e) marked (owner_then side.Document owns))
+          marks mark (mark_then side.Document owns ∙ ap doc_mark (shown.shows.by_doc owns ∙ e) ∙ marked) _ (((parts shown.moment.at shown.moment.sound).marks prepare.key).of_doc d mark (shown.shows.by_doc owns ∙ e) marked (owner_then side.Document owns))
 
-      blocked_stash : (mark : Token) (s : Option StashCell) → stash ≡ s → owner_of doc stash ≡ side.Stash → stash_mark s ≡ Some mark → IsBlocked c prepare.key mark.id
+      blocked_stash : (mark : Token) (s : Option StashCell) → stash ≡ s → owner_of doc stash ≡ side.Stash → stash_mark s ≡ Some mark → IsBlocked c prepare.rec prepare.key mark.id
+      unfolding doc_then stash_then
       blocked_stash mark None e owns marked = cc
       blocked_stash mark (Some s) e owns marked =
-          marks mark _ (((parts shown.moment.at shown.moment.sound).marks prepare.key).of_stash s mark (shown.shows.by_stash owns ∙ e) marked (owner_then side.Stash owns))
+          marks mark (mark_then side.Stash owns ∙ ap stash_mark (shown.shows.by_stash owns ∙ e) ∙ marked) _ (((parts shown.moment.at shown.moment.sound).marks prepare.key).of_stash s mark (shown.shows.by_stash owns ∙ e) marked (owner_then side.Stash owns))
 
-      blocked : (mark : Token) (o : Side) → owner_of doc stash ≡ o → by_side o None (doc_mark doc) (stash_mark stash) ≡ Some mark → IsBlocked c prepare.key mark.id
+      blocked : (mark : Token) (o : Side) → owner_of doc stash ≡ o → by_side o None (doc_mark doc) (stash_mark stash) ≡ Some mark → IsBlocked c prepare.rec prepare.key mark.id
       blocked mark side.Neither e marked = cc
       blocked mark side.Document e marked = blocked_doc mark doc refl e marked
       blocked mark side.Stash e marked = blocked_stash mark stash refl e marked

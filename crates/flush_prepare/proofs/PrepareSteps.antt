@@ -22,7 +22,7 @@ use Rattle.store_laws.specs.View.{View, look}
 use Rattle.store_laws.proofs.cells.Misses.{quiet_itself}
 use Rattle.flush_prepare.specs.Draws.{drawn_of}
 use Rattle.flush_prepare.specs.Preparations.{name_of, edit_at, edit_of, begun, next_begun, key_done, seen_answer, after_seen, sight_of, read_answer_at, after_read_at, read_answer, after_read, drawn_answer, after_drawn, drawn_in, added_answer, after_added, moved_answer, edit_answer_at, after_edit_at, edit_answer, after_edit, PrepareGoes}
-use Rattle.flush_prepare.specs.PrepareFacts.{nonce_of, ChangesQueuesAt, IsPreparing, ComesTo, Prepares}
+use Rattle.flush_prepare.specs.PrepareFacts.{nonce_at, nonce_of, ChangesQueuesAt, IsPreparing, ComesTo, Prepares}
 use Rattle.flush_prepare.specs.Progress.{due, may_begin_again, BeginsAgain, ComesNearer}
 use Rattle.flush_prepare.specs.Refusals.{IsOfStore, LeftAt}
 use Rattle.flush_prepare.specs.Sights.{is_outdated}
@@ -176,13 +176,13 @@ done_nearer prepare nonce most (key ∷ later) e le = omega (arith, le, ap lengt
 nearer : (prepare : Prepare) (next : Prepare) → due next < due prepare → ComesNearer prepare More next
 nearer prepare next less = inl less
 
-again : (prepare : Prepare) (nonce : ℕ) (place : Place) → prepare.place ≡ place → may_begin_again place ≡ true → 4 * length prepare.later + 2 ≤ due prepare → BeginsAgain prepare (begun prepare nonce)
-again prepare nonce place e may le = record { nonce = nonce; may = ap may_begin_again e ∙ may; begins = refl; more = omega (arith, le) }
+again : (prepare : Prepare) (nonce : ℕ) (place : Place) → prepare.place ≡ place → nonce_at place ≡ Some nonce → may_begin_again place ≡ true → 4 * length prepare.later + 2 ≤ due prepare → BeginsAgain prepare (begun prepare nonce)
+again prepare nonce place e own may le = record { nonce = nonce; own = ap nonce_at e ∙ own; may = ap may_begin_again e ∙ may; begins = refl; more = omega (arith, le) }
 
 module _ (prepare : Prepare) where
   seen_nearer : (nonce : ℕ) (doc : Option DocCell) → prepare.place ≡ Entry nonce doc → (s : Sight) → ComesNearer prepare (seen_answer s) (after_seen prepare nonce s)
   seen_nearer nonce doc e Queued = inl (rw e (done_nearer prepare nonce (4 * length prepare.later + 4) prepare.later refl (omega arith)))
-  seen_nearer nonce doc e (Marked mark) = again prepare nonce (Entry nonce doc) e refl (rw e (omega arith))
+  seen_nearer nonce doc e (Marked mark) = again prepare nonce (Entry nonce doc) e refl refl (rw e (omega arith))
   seen_nearer nonce doc e (Free side.Document) = inl (rw e (omega arith))
   seen_nearer nonce doc e (Free side.Stash) = inl (rw e (omega arith))
   seen_nearer nonce doc e (Free side.Neither) = inl (rw e (omega arith))
@@ -197,7 +197,7 @@ module _ (prepare : Prepare) where
   read_nearer (EntryAgain nonce revno) found e reads = by (is_outdated revno _ (option_and_then as_stash found))
     where
       by : (t : Bool) → ComesNearer prepare More (cond t (begun prepare nonce) (key_done prepare nonce))
-      by true = inr (again prepare nonce (EntryAgain nonce revno) e refl (rw e (omega arith)))
+      by true = inr (again prepare nonce (EntryAgain nonce revno) e refl refl (rw e (omega arith)))
       by false = inl (rw e (done_nearer prepare nonce (4 * length prepare.later + 2) prepare.later refl (omega arith)))
 
   -- of an answer that is one
@@ -216,12 +216,12 @@ module _ (prepare : Prepare) where
       by : (t : Bool) (o : Option DocCell) → IfOk (added_answer prepare t o) (λ answer. ComesNearer prepare answer (after_added prepare nonce t o))
       by true None = tt
       by true (Some doc) = inl (rw e (omega arith))
-      by false o = inr (again prepare nonce (AddToDocument nonce) e refl (rw e (omega arith)))
+      by false o = inr (again prepare nonce (AddToDocument nonce) e refl refl (rw e (omega arith)))
   edit_nearer (AddToEntry nonce) change done e edits = by done.hit
     where
       by : (t : Bool) → ComesNearer prepare More (cond t (key_done prepare nonce) (begun prepare nonce))
       by true = inl (rw e (done_nearer prepare nonce (4 * length prepare.later + 3) prepare.later refl (omega arith)))
-      by false = inr (again prepare nonce (AddToEntry nonce) e refl (rw e (omega arith)))
+      by false = inr (again prepare nonce (AddToEntry nonce) e refl refl (rw e (omega arith)))
   edit_nearer (Move nonce) change done e edits = by (option_and_then as_record done.cell)
     where
       by_state : (now : Record) (t : Bool) → IfOk (cond t (Ok (Ready now)) (Err (step.Clash prepare.rec.id (name.Record prepare.rec.id)))) (λ answer. ComesNearer prepare answer prepare)

@@ -13,19 +13,19 @@ use Rattle.store_laws.specs.Soundness.{IsSound}
 use Rattle.store_laws.specs.Steps.{IsStep, IsQuiet}
 use Rattle.store_laws.specs.Trail.{IsCall}
 use Rattle.store_laws.specs.View.{View, look, counter, valid_nonce, IsOn}
-use Rattle.store_laws.proofs.steps.Known.{queued_later, no_doc_later}
+use Rattle.store_laws.proofs.steps.Known.{queued_later, no_doc_later, still_later}
 use Rattle.store_laws.proofs.steps.Moments.{since_step, since_sound}
 use Rattle.flush_prepare.specs.Keys.{IsAmong}
 use Rattle.flush_prepare.specs.Moments.{WasStored}
 use Rattle.flush_prepare.specs.Preparations.{begun, next_begun, key_done}
-use Rattle.flush_prepare.specs.PrepareFacts.{nonce_at, IsAhead, IsDone, IsQueueing, WasAdded, PlaceIsWorth, IsPreparing, IsNotGiven, ChangesQueuesAt, ComesTo}
+use Rattle.flush_prepare.specs.PrepareFacts.{nonce_at, IsAhead, IsDone, IsQueueing, WasAdded, PlaceIsWorth, IsPreparing, IsBlocked, IsNotGiven, ChangesQueuesAt, ComesTo}
 use Rattle.flush_prepare.specs.declared.error.StepError.{StepError}
 use Rattle.flush_prepare.specs.declared.prepare.Place.{Place}
 use Rattle.flush_prepare.specs.declared.prepare.Place.TheVariants.{Draw, Document, Entry, AddToDocument, AddToEntry, EntryAgain, Move}
 use Rattle.flush_prepare.specs.declared.prepare.Prepare.{Prepare}
 use Rattle.flush_prepare.specs.declared.prepare.PrepareStep.{PrepareStep}
 use Rattle.flush_prepare.proofs.OwnKeys.{key_of_own, own_of_key}
-use Rattle.flush_prepare.proofs.Records.{stored_step, read_later}
+use Rattle.flush_prepare.proofs.Records.{stored_step, moment_later, read_later}
 
 -- all that a step comes to, over a store that tells
 pub record Comes (c d : Content) (prepare : Prepare) (nonce : Option ℕ) (result : Result PrepareStep StepError) (next : Prepare) : Type 0 where
@@ -86,6 +86,20 @@ prepare_lasts c d prepare since given was = record {
   stored = stored_step c d prepare.rec (since_step c d was.sound since) was.stored;
   own = was.own;
   place = place_lasts c d prepare was.sound since prepare.place given was.place;
+}
+
+-- and what a mark showed is kept by any
+pub blocked_later : (c d : Content) (rec : Record) (key : Key) (id : TxnId) → Since c d → IsBlocked c rec key id → IsBlocked d rec key id
+blocked_later c d rec key id since was = record {
+  moment = moment_later c d rec since was.moment;
+  mark = was.mark;
+  seen = was.seen;
+  is_of = was.is_of;
+  marker = was.marker;
+  stored = was.stored;
+  applies = was.applies;
+  on = was.on;
+  there = still_later c d id was.marker (since_step c d (since_sound was.moment.at c was.moment.sound was.moment.since) since) was.there;
 }
 
 pub since_quiet : (c d : Content) → IsQuiet c d → Since c d

@@ -154,8 +154,8 @@ module _ (c : Content) (rec : Record) (found : List Token) (was : HasScanned c r
 
 -- ---- nonces of others
 
-pub given_apart : (c d : Content) (prepare : Prepare) (id : TxnId) (given : Option ℕ) → NoncesCome (look c) (look d) id given → (id ≡ prepare.rec.id → given ≡ nonce_of prepare → ⊥) → IsNotGiven c d prepare
-given_apart c d prepare id given come apart nonce drawn valid = ⊎_elim (λ was. was) (λ now. absurd (apart (sym now.1) (now.0 ∙ sym drawn))) (come.from prepare.rec.id nonce valid)
+pub given_apart : (c d : Content) (prepare : Prepare) (id : TxnId) (given : Option ℕ) → NoncesCome (look c) (look d) id given → ((nonce : ℕ) → id ≡ prepare.rec.id → given ≡ Some nonce → nonce_of prepare ≡ Some nonce → ⊥) → IsNotGiven c d prepare
+given_apart c d prepare id given come apart nonce drawn valid = ⊎_elim (λ was. was) (λ now. absurd (apart nonce (sym now.1) now.0 drawn)) (come.from prepare.rec.id nonce valid)
 
 pub given_then : (b c d : Content) (prepare : Prepare) → IsNotGiven b c prepare → IsNotGiven c d prepare → IsNotGiven b d prepare
 given_then b c d prepare one two nonce drawn valid = one nonce drawn (two nonce drawn valid)

@@ -1,4 +1,5 @@
--- What was true of a record's keys at a moment up to now.
+-- What was true of a record's keys as if at a moment up to now. That a store held these very contents isn't
+-- said here: what was read is what the clauses `goes` of the steps say.
 use Rattle.std.specs.Prelude.{◌≡◌, true, Option}
 use Rattle.txn_key.specs.declared.key.Key.{Key}
 use Rattle.txn_record.specs.declared.record.Record.{Record}
@@ -14,14 +15,14 @@ pub record WasStored (c : Content) (rec : Record) : Type 0 where
   pub there : IsStillThere (look c) rec.id rec
   pub numbered : is_numbered_record rec ≡ true
 
--- a moment since which only runners made calls, when the record was there
+-- a sound content from which runners' calls lead here, in which the record was there
 pub record Moment (c : Content) (rec : Record) : Type 0 where
   pub at : Content
   pub sound : IsSound at
   pub stored : WasStored at rec
   pub since : Since at c
 
--- the document of a key was read at such a moment
+-- the document of a key is one as if read at such a moment
 pub record WasRead (c : Content) (rec : Record) (key : Key) (doc : Option DocCell) : Type 0 where
   pub moment : Moment c rec
   pub read : doc_at moment.at key ≡ doc

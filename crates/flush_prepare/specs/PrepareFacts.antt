@@ -16,10 +16,11 @@ use Rattle.store_laws.specs.Queues.{QueuesStay, AddsAtEnd}
 use Rattle.store_laws.specs.Readiness.{token, In}
 use Rattle.store_laws.specs.Soundness.{IsSound}
 use Rattle.store_laws.specs.Steps.{IsQuiet}
-use Rattle.store_laws.specs.View.{View, look, record_at, counter, valid_nonce, IsOn}
+use Rattle.store_laws.specs.View.{View, look, record_at, doc_at, stash_at, counter, valid_nonce, IsOn}
 use Rattle.flush_prepare.specs.Keys.{IsAmong}
-use Rattle.flush_prepare.specs.Moments.{WasStored, WasRead}
+use Rattle.flush_prepare.specs.Moments.{WasStored, Moment, WasRead}
 use Rattle.flush_prepare.specs.Refusals.{IsOfStore}
+use Rattle.flush_prepare.specs.Sights.{owner_mark}
 use Rattle.flush_prepare.specs.declared.error.StepError.{StepError}
 use Rattle.flush_prepare.specs.declared.error.StepError.TheVariants as step
 use Rattle.flush_prepare.specs.declared.prepare.Place.{Place}
@@ -102,12 +103,18 @@ ChangesQueuesAt old prepare (Some nonce) new =
 abbrev pub ChangesQueues : View → Prepare → View → Type 0
 ChangesQueues old prepare new = ChangesQueuesAt old prepare (nonce_of prepare) new
 
--- a record that was applying when its mark was seen on the owner of the key
-pub record IsBlocked (c : Content) (key : Key) (id : TxnId) : Type 0 where
-  pub rec : Record
-  pub there : IsStillThere (look c) id rec
-  pub applies : rec.state ≡ state.Applying
-  pub on : IsOn key rec.ops
+-- As if at a moment up to now the owner of the key bore a mark of the record with this id, which was
+-- applying then, with an operation on the key. That record is there, as it was then or further on.
+pub record IsBlocked (c : Content) (rec : Record) (key : Key) (id : TxnId) : Type 0 where
+  pub moment : Moment c rec
+  pub mark : Token
+  pub seen : owner_mark (doc_at moment.at key) (stash_at moment.at key) ≡ Some mark
+  pub is_of : mark.id ≡ id
+  pub marker : Record
+  pub stored : record_at moment.at id ≡ Some marker
+  pub applies : marker.state ≡ state.Applying
+  pub on : IsOn key marker.ops
+  pub there : IsStillThere (look c) id marker
 
 -- the record as stored, prepared or further on
 pub record IsReadyAs (c : Content) (rec now : Record) : Type 0 where
@@ -121,7 +128,7 @@ MayStop c error = IsOfStore error
 
 abbrev pub ComesTo : Content → Prepare → Result PrepareStep StepError → Type 0
 ComesTo c prepare (Ok More) = Unit {0}
-ComesTo c prepare (Ok (Blocked id)) = IsBlocked c prepare.key id
+ComesTo c prepare (Ok (Blocked id)) = IsBlocked c prepare.rec prepare.key id
 ComesTo c prepare (Ok (Ready now)) = IsReadyAs c prepare.rec now
 ComesTo c prepare (Err error) = MayStop c error
 

@@ -1,13 +1,14 @@
 -- How many steps a preparation makes.
-use Rattle.std.specs.Prelude.{◌≡◌, ◌<◌, ◌≤◌, ◌+◌, ◌*◌, ℕ, Bool, true, false, ◌⊎◌, length}
+use Rattle.std.specs.Prelude.{◌≡◌, ◌<◌, ◌≤◌, ◌+◌, ◌*◌, ℕ, Bool, true, false, Some, ◌⊎◌, length}
 use Rattle.flush_prepare.specs.declared.prepare.Place.{Place}
 use Rattle.flush_prepare.specs.declared.prepare.Place.TheVariants.{Draw, Document, Entry, AddToDocument, AddToEntry, EntryAgain, Move}
 use Rattle.flush_prepare.specs.declared.prepare.Prepare.{Prepare}
 use Rattle.flush_prepare.specs.declared.prepare.PrepareStep.{PrepareStep}
 use Rattle.flush_prepare.specs.declared.prepare.PrepareStep.TheVariants.{More, Blocked, Ready}
 use Rattle.flush_prepare.specs.Preparations.{begun}
+use Rattle.flush_prepare.specs.PrepareFacts.{nonce_of}
 
--- how often a step answers that there is more, at most, as long as no key is begun again
+-- how many steps are left at most, the last one counted, as long as no key is begun again
 abbrev pub due_at : ℕ → Place → ℕ
 due_at later Draw = 4 * later + 6
 due_at later (Document nonce) = 4 * later + 5
@@ -28,12 +29,13 @@ may_begin_again (AddToEntry nonce) = true
 may_begin_again (EntryAgain nonce revno) = true
 may_begin_again _ = false
 
--- the present key is begun again
+-- the present key is begun again, with the nonce that was drawn
 pub record BeginsAgain (old new : Prepare) : Type 0 where
   pub nonce : ℕ
+  pub own : nonce_of old ≡ Some nonce
   pub may : may_begin_again old.place ≡ true
   pub begins : new ≡ begun old nonce
-  pub more : due new ≤ due old + 4
+  pub more : due new ≤ due old + 3
 
 abbrev pub ComesNearer : Prepare → PrepareStep → Prepare → Type 0
 ComesNearer old More new = (due new < due old) ⊎ BeginsAgain old new

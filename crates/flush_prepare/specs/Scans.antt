@@ -86,7 +86,7 @@ abbrev pub due_at : ℕ → NextRead → ℕ
 due_at later Document = 2 * later + 2
 due_at later (Entry doc) = 2 * later + 1
 
--- how often a step answers that there is more, at most
+-- how many steps are left at most, the last one counted
 abbrev pub due : Scan → ℕ
 due scan = due_at (length scan.later) scan.next
 
@@ -101,7 +101,7 @@ pub record KeyScan : Type 0 where
   pub key : Key
   pub tokens : List Token
 
--- it is what stood before the record's own token at a moment
+-- it is what stands before the record's own token as if at such a moment
 pub record WasScanned (c : Content) (rec : Record) (s : KeyScan) : Type 0 where
   pub moment : Moment c rec
   pub taken : scanned rec ((look moment.at).queue_at s.key) ≡ Some s.tokens
@@ -118,8 +118,8 @@ abbrev pub NextIsWorth : Content → Scan → NextRead → Type 0
 NextIsWorth c scan Document = Unit {0}
 NextIsWorth c scan (Entry doc) = WasRead c scan.rec scan.key doc
 
--- The record is there, or further on; the keys done were scanned; and the document, if it was read, was
--- read at a moment up to now.
+-- The record is there, or further on; the keys done were scanned; and the document, if it was read, is
+-- one as if read at a moment up to now.
 pub record IsScanning (c : Content) (scan : Scan) : Type 0 where
   pub sound : IsSound c
   pub stored : WasStored c scan.rec

@@ -9,9 +9,9 @@ pub enum StepError {
     StoreFault,
     /// The counter of nonces stands at its last value.
     NoncesSpent,
-    /// The revision number of the key's owner has no room for another chain.
+    /// The revision number of the key's owner has no room for another chain. No part answers this yet.
     RevnoSpent { key: Key },
-    /// The record of a token is absent.
+    /// The record of a token is absent. No part answers this yet.
     Lost { token: Token },
     /// A record and what was read or answered at a name disagree.
     Clash { id: TxnId, at: Name },

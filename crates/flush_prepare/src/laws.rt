@@ -14,7 +14,7 @@ ghost use Rattle.store_laws.specs.Since.{Since};
 ghost use Rattle.store_laws.specs.Soundness.{IsSound};
 ghost use Rattle.store_laws.specs.View.{look, record_at, IsOn};
 ghost use Rattle.flush_prepare.specs.Moments.{WasStored};
-ghost use Rattle.flush_prepare.specs.PrepareFacts.{IsPreparing, IsNotGiven, nonce_of};
+ghost use Rattle.flush_prepare.specs.PrepareFacts.{IsPreparing, IsBlocked, IsNotGiven, nonce_of};
 ghost use Rattle.flush_prepare.specs.Scans.{IsScanning, HasScanned, IsFoundOn};
 ghost use Rattle.flush_prepare.specs.declared.prepare.Prepare.{Prepare};
 ghost use Rattle.flush_prepare.specs.declared.scan.Scan.{Scan};
@@ -47,13 +47,16 @@ pub fn reading_a_scan()
 {}
 
 /// Between two steps of a preparation any calls of runners may be made that don't give its record the
-/// nonce that was drawn for it. A call that gives a nonce to another record, or another nonce, doesn't.
+/// nonce that was drawn for it. A call that gives a nonce to another record, or another nonce, doesn't. What
+/// was said of a mark lasts under any calls of runners.
 pub fn preparations_last()
     ensures preparing { (c d : Content) (prepare : Prepare) → Since c d → IsNotGiven c d prepare →
         IsPreparing c prepare → IsPreparing d prepare }
     ensures apart { (c d : Content) (prepare : Prepare) (id : TxnId) (given : Option ℕ) →
-        NoncesCome (look c) (look d) id given →
-        (id ≡ prepare.rec.id → given ≡ nonce_of prepare → ⊥) → IsNotGiven c d prepare }
+        NoncesCome (look c) (look d) id given → ((nonce : ℕ) → id ≡ prepare.rec.id →
+        given ≡ Some nonce → nonce_of prepare ≡ Some nonce → ⊥) → IsNotGiven c d prepare }
     ensures joined { (b c d : Content) (prepare : Prepare) → IsNotGiven b c prepare →
         IsNotGiven c d prepare → IsNotGiven b d prepare }
+    ensures blocked { (c d : Content) (rec : Record) (key : Key) (id : TxnId) → Since c d →
+        IsBlocked c rec key id → IsBlocked d rec key id }
 {}

@@ -1,8 +1,9 @@
 //! The first parts of a runner: a record is prepared, and what stands before it is scanned.
 //!
 //! A part is made from a record, and each of its steps makes one call on the store. Between two steps
-//! anybody may change the store by calls of runners: what a part knows is kept by those (`Scan`), and each
-//! step asks for nothing else.
+//! anybody may change the store by calls of runners (`Since`): what a part knows is kept by those, as long as
+//! nobody else gives a preparation's record the nonce that was drawn for it (`IsNotGiven`). A step asks for
+//! nothing else.
 #![tactic(auto)]
 
 mod calls;

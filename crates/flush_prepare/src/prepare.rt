@@ -63,7 +63,7 @@ pub struct Prepare {
 }
 
 impl Prepare {
-    ghost use Rattle.std.specs.Prelude.{◌≡◌, ◌≤◌, ◌+◌, ◌*◌, length, true, IsTrue, IfOk, IfErr, OnErr, None, Some, IsSome};
+    ghost use Rattle.std.specs.Prelude.{◌≡◌, ◌≤◌, ◌+◌, ◌*◌, ◌∷◌, length, true, IsTrue, IfOk, IfErr, OnErr, None, Some, IsSome};
     ghost use Rattle.txn_record.specs.Chain.{keys_of};
     ghost use Rattle.txn_record.specs.declared.state.State.TheVariants as state;
     ghost use Rattle.store_trait.specs.Contents.{Content};
@@ -82,6 +82,7 @@ impl Prepare {
         ensures begins { IfOk result (λ prepare. (c : Content) → IsSound c →
             WasStored c rec → IsPreparing c prepare) }
         ensures of { IfOk result (λ prepare. prepare.rec ≡ rec) }
+        ensures keys { IfOk result (λ prepare. keys_of rec.ops ≡ prepare.key ∷ prepare.later) }
         ensures due { IfOk result (λ prepare. due prepare ≤ 4 * length (keys_of rec.ops) + 2) }
     {
         let (key, later) = first_and_later(alloc, &rec.ops)?;
