@@ -53,3 +53,8 @@ pub returns-in_err-base-clause-left : goal.returns-in_err-base-clause-left
 returns-in_err-base-clause-left g c = λ told.
     let p = err_from_is_err_and c.from_residual-in_err-base.result c.from_residual-in_err-base.ensures.1 in
     rw (p.1, p.2) (stays_left true _ _ _ _ _ (record { holds = (c.in_err-base.ensures.reads.only told).same; runs = c.in_ok-reserve.ensures.items }))
+
+pub returns-in_err-base-clause-cause : goal.returns-in_err-base-clause-cause
+returns-in_err-base-clause-cause g c =
+    let p = err_from_is_err_and c.from_residual-in_err-base.result c.from_residual-in_err-base.ensures.1 in
+    rw (p.1, p.2) (reading_cause _ _ _ _ c.in_err-base.ensures.reads)

@@ -13,7 +13,7 @@ returns-in_err-why g c =
     rw (p.1, p.2) (record {
       done = λ told. tt;
       against = λ told. failed_against _ _ c.in_err-why.ensures.kept.other;
-      found = unfound _ _ (failed_unfound _ c.in_err-why.ensures.kept.other);
+      found = unfound (statement.Submit c.args.id c.args.ops c.args.info) _ (failed_unfound _ c.in_err-why.ensures.kept.other);
       refused = failed_refused _ false _ _ _ c.in_err-why.ensures.kept (λ told. (c.against_record.ensures.reads told).same) refl (record { batch = refl; begun = refl; alone = refl });
       kept = refused_reading _ _ _ _ c.requires.stands c.against_record.ensures.reads c.against_record.ensures.kept.calls refl;
     })

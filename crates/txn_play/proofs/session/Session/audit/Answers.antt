@@ -14,4 +14,4 @@ returns g c =
 pub returns-in_err-found : goal.returns-in_err-found
 returns-in_err-found g c =
     let p = err_from_is_err_and c.from_residual.result c.from_residual.ensures.1 in
-    rw (p.1, p.2) (reading_refused _ statement.Audit _ _ _ c.requires.stands c.in_err-found.ensures.reads (unfound _ _ c.in_err-found.ensures.none) refl (record { batch = refl; begun = refl; alone = refl }))
+    rw (p.1, p.2) (reading_refused _ statement.Audit _ _ _ c.requires.stands c.in_err-found.ensures.reads (unfound statement.Audit _ c.in_err-found.ensures.none) refl (record { batch = refl; begun = refl; alone = refl }))
